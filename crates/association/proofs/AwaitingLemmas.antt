@@ -1,4 +1,4 @@
--- Whether some child is still to come.
+-- Whether some Child SA is still to come.
 use Rattle.std.proofs.Common.{◌≡◌, ℕ, Bool, true, false, MatchBool, Option, None, Some, sym, inl, inr, refl, ◌∙◌}
 use Rattle.std.specs.Prelude.{IsSome}
 use Rattle.std.proofs.lemmas.Option.{none-some}
@@ -11,7 +11,7 @@ use Rattle.association.specs.declared.phase.Request.{Request}
 use Rattle.association.specs.declared.purpose.Purpose.{Purpose}
 use Rattle.association.specs.declared.purpose.Purpose.TheVariants.{Begin, Identify, CreateChild, Probe, DeleteChild, DeleteAssociation}
 
--- what asks for a child names its SPI
+-- what asks for a Child SA names its SPI
 record NamesSpi (p : Purpose) : Type 0 where
   spi : ℕ
   is : spi_asked p ≡ Some spi

@@ -1,4 +1,4 @@
--- Whether some request asks for the end of its association.
+-- Whether some request asks for the end of its IKE SA.
 use Rattle.std.proofs.Common.{◌≡◌, Bool, true, false, MatchBool, sym}
 use Rattle.requests.specs.Outgoing.{NoneOutstanding, OwnRequests, SomeOutstanding}
 use Rattle.association.specs.Purposes.{asks_to_end, AwaitsDeletion}

@@ -1,4 +1,4 @@
--- What a message is to an association goes by what is held of it, and so does what its end leaves.
+-- What a message is to an IKE SA goes by what is held of it, and so does what its end leaves.
 use Rattle.std.proofs.Common.{◌≡◌, ℕ, Bool, true, false, refl, inl, inr, sym, ap, subst, ◌∙◌}
 use Rattle.std.specs.Cmp.{nat_cmp_total}
 use Rattle.std.specs.FinSet as set

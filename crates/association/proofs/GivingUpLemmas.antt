@@ -1,4 +1,4 @@
--- All outstanding requests are given up, one after the other, with the SPIs of the children that they asked
+-- All outstanding requests are given up, one after the other, with the SPIs of the Child SAs that they asked
 -- for.
 use Rattle.std.proofs.Common.{◌≡◌, ◌≢◌, ◌+◌, ◌-◌, ◌<◌, ◌≤◌, ◌&&◌, ◌↔◌, ℕ, Bool, true, false, cond, not, Option, Some, None, refl, sym, ap, subst, ◌∙◌, inl, inr, arith}
 use Rattle.std.specs.Prelude.{is_some, nat_eq, ◌⊎◌}
@@ -222,7 +222,7 @@ all_spis old old_table now table given none = record {
   room = given.room;
 }
 
--- ---- that of the first child, and all others
+-- ---- that of the first Child SA, and all others
 
 pub both_given_up : (o : Option ℕ) (requests : OwnRequests Request) (old between new : Database) → GivesUpSpi o old between → GivesUpSpis (AwaitsSpi requests) between new
     → GivesUpSpis (λ spi. (o ≡ Some spi) ⊎ AwaitsSpi requests spi) old new

@@ -1,4 +1,4 @@
--- The SPIs that an association holds stay reserved.
+-- The SPIs that an IKE SA holds stay reserved.
 use Rattle.std.proofs.Common.{◌≡◌, ◌≢◌, ℕ, cond, None, Some, sym, ap, subst, ◌∙◌, inl, inr}
 use Rattle.std.proofs.lemmas.Bool.{eq-eqb, ne_eqb}
 use Rattle.std.proofs.lemmas.Bool.Decides.{eqb_tells}
@@ -34,7 +34,7 @@ fewer_held a b table new phases requests stays holds = record {
   one = λ number other spi one two. holds.one number other spi (requests number spi one) (requests other spi two);
 }
 
--- ---- which children are awaited
+-- ---- which Child SAs are awaited
 
 kept_awaited : (old new : OwnRequests Request) (number spi : ℕ) → ((r : Request) → map.get new.outstanding number ≡ Some r → map.get old.outstanding number ≡ Some r)
     → AwaitsChild new number spi → AwaitsChild old number spi

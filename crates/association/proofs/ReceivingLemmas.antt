@@ -1,4 +1,4 @@
--- What a message is to an association is determined.
+-- What a message is to an IKE SA is determined.
 use Rattle.std.proofs.Common.{◌≡◌, ◌==◌, ◌||◌, ℕ, Bool, true, false, if◌then◌else◌, Option, Some, None, refl, ap, ◌∙◌, sym}
 use Rattle.std.specs.FinMap as map
 use Rattle.base.specs.Octets.{Octets}
@@ -50,13 +50,13 @@ one_reception judges false plain_of a octets m one other first second =
     (judges a.incoming m.header.id first.judgement second.judgement first.number second.number)
     ∙ sym second.whole
 
--- ---- what is asked of the association
+-- ---- what is asked of the IKE SA
 
 in_effect_if : (b : Bool) (p plain : Plain) → TakesEffect plain ≡ (if b then TakesEffect p else Refused WrongPhase) → (b ≡ true) × (Some p ≡ Some plain)
 in_effect_if true p plain is = (refl, cc)
 in_effect_if false p plain is = absurd (cc)
 
--- a fresh request that takes effect
+-- a fresh request that is processed
 fresh_takes : (p : Phase) (exchange : ℕ) (opened : Option Plain) (plain : Plain) → TakesEffect plain ≡ fresh_reception p exchange opened
     → (admits p exchange ≡ true) × (opened ≡ Some plain)
 fresh_takes (phase.Closed keys at) exchange opened plain is = absurd (cc)
@@ -266,7 +266,7 @@ pub initials_say_why : (plain_of : Opening) (a : Association) (octets : Octets) 
     → IsReceived plain_of a octets m AnswersInitial → IsAnsweringInitial a m
 initials_say_why plain_of a octets m is = initial_by plain_of a octets m m.header.flags.response refl is
 
--- ---- the other way round: what is fresh, belongs to the phase and opens takes effect
+-- ---- the other way round: what is fresh, belongs to the phase and opens is processed
 
 takes_fresh : (p : Phase) (exchange : ℕ) (opened : Option Plain) (plain : Plain) → admits p exchange ≡ true → opened ≡ Some plain → TakesEffect plain ≡ fresh_reception p exchange opened
 takes_fresh (phase.InitSent sent) exchange opened plain admitted is = absurd (cc)

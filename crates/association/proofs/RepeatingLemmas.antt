@@ -39,7 +39,7 @@ response_repeats p exchange (Some r) opened reply is = answering_repeats p (exch
 
 -- ---- what comes again
 
--- the reply is the one that is kept, and the request opens
+-- the reply is the cached response, and the request opens
 record IsSaidAgain (reply kept : Octets) (opened : Option Plain) : Type 0 where
   same : kept ≡ reply
   plain : Plain

@@ -1,5 +1,5 @@
--- A child that an end asked for, with the association or by an exchange of its own (RFC 7296 sections 1.2
--- and 1.3.1).
+-- A Child SA that an end asked for, with the IKE SA or by an exchange of its own (RFC 7296 sections 1.2 and
+-- 1.3.1).
 use Rattle.std.specs.Prelude.{ℕ, Bool}
 use Rattle.base.specs.declared.selector.Selector.{Selector}
 use Rattle.policy.specs.Narrowing.{IsSendableSelector}
@@ -11,7 +11,7 @@ pub record AskedChildView : Type 0 where
   -- the selectors of this end's side and of the peer's
   pub local : Selector
   pub remote : Selector
-  -- extended sequence numbers are allowed
+  -- ESN is allowed
   pub extended : Bool
 
 -- a message can carry both selectors (section 3.13.1)

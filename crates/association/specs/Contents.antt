@@ -1,4 +1,4 @@
--- What an end holds of an association. For how many more replies and requests there is room is no part of it.
+-- What an end holds of an IKE SA. Its spare capacity for more replies and requests is no part of it.
 use Rattle.requests.specs.Contents.{incoming_content, outgoing_content}
 use Rattle.association.specs.declared.phase.Association.{Association}
 

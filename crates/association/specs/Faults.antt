@@ -1,4 +1,4 @@
--- The numbers of this crate's refusals.
+-- The error codes of this crate.
 use Rattle.std.specs.Prelude.{ℕ}
 use Rattle.sadb.specs.declared.fault.TableFault.{TableFault}
 use Rattle.sadb.specs.declared.fault.TableFault.TheVariants as table

@@ -1,4 +1,4 @@
--- Which association a message is for (RFC 7296 section 3.1, and 2.6 for the response to IKE_SA_INIT).
+-- Which IKE SA a message is for (RFC 7296 section 3.1, and 2.6 for the response to IKE_SA_INIT).
 use Rattle.std.specs.Prelude.{◌==◌, ◌&&◌, ◌||◌, ℕ, Bool, true, false, not, Option, Some, None, Result, Ok, Err, List, if◌then◌else◌}
 use Rattle.std.specs.List.{list_any, position}
 use Rattle.wire.specs.Numbers.{IKE_SA_INIT}
@@ -11,8 +11,7 @@ use Rattle.association.specs.declared.phase.Association.{Association}
 use Rattle.association.specs.declared.phase.Phase.{Phase}
 use Rattle.association.specs.declared.phase.Phase.TheVariants.{InitSent}
 
--- The flag I is set in what the association's original initiator sends, and so is that of messages to a
--- responder.
+-- The flag I is set in what the IKE SA's original initiator sends, and so is that of messages to a responder.
 abbrev pub sent_by_other : Role → Bool → Bool
 sent_by_other Initiator initiator = not initiator
 sent_by_other Responder initiator = initiator

@@ -1,4 +1,4 @@
--- One request of this end is given up, with the SPI of the child that it asked for.
+-- One request of this end is given up, with the SPI of the Child SA that it asked for.
 use Rattle.std.specs.Prelude.{ℕ}
 use Rattle.requests.specs.Outgoing.{OwnRequests, WithdrawsRequest}
 use Rattle.sadb.specs.Database.{Database}

@@ -7,11 +7,11 @@ use Rattle.association.specs.declared.phase.Association.{Association}
 use Rattle.association.specs.declared.phase.Request.{Request}
 use Rattle.association.specs.declared.purpose.Purpose.{Purpose}
 
--- a request that goes out for the first time at this moment
+-- a request that first goes out at this time
 abbrev pub new_request : Octets → Purpose → ℕ → Request
 new_request octets purpose moment = record { octets = octets; purpose = purpose; timer = record { sent = moment; repeats = 0 } }
 
--- one more request is outstanding, of the next number
+-- one more request is outstanding, with the next Message ID
 pub record IssuesNext (old : OwnRequests Request) (request : Request) (new : OwnRequests Request) : Type 0 where
   pub ready : OwnRequests Request
   pub prepared : HasSameOwnRequests old ready

@@ -1,4 +1,4 @@
--- Why an order on an association is refused (RFC 7296 sections 2.2 and 2.3).
+-- Why a command on an IKE SA is refused (RFC 7296 sections 2.2 and 2.3).
 use Rattle.std.specs.Prelude.{◌⊎◌}
 use Rattle.requests.specs.Outgoing.{AreNumbersSpent, IsBusy, MayIssue}
 use Rattle.association.specs.Phases.{IsEstablished}
@@ -7,8 +7,8 @@ use Rattle.association.specs.declared.fault.OrderFault.{OrderFault}
 use Rattle.association.specs.declared.fault.OrderFault.TheVariants.{WrongPhase, Busy, NumbersSpent, Memory, TableFull, SpisSpent, TableMemory}
 use Rattle.association.specs.declared.phase.Association.{Association}
 
--- why an order on an association is refused, each where those before it don't apply; none is taken while a
--- request of this end to delete the association waits for its answer
+-- why a command on an IKE SA is refused, each where those before it don't apply; none is taken while a
+-- request of this end to delete the IKE SA waits for its answer
 abbrev pub RefusesOrder : Association → OrderFault → Type 0
 RefusesOrder a WrongPhase = ¬ IsEstablished a.phase
 RefusesOrder a Busy = IsEstablished a.phase × (AwaitsDeletion a.outgoing ⊎ IsBusy a.outgoing)

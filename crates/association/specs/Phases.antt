@@ -1,4 +1,4 @@
--- What an end holds of one association, by its phase.
+-- What an end holds of one IKE SA, by its phase.
 use Rattle.std.specs.Prelude.{◌≡◌, ℕ, Option, Some, None}
 use Rattle.suite.specs.declared.key_record.KeyRecord.{KeyRecord}
 use Rattle.association.specs.declared.phase.Phase.{Phase}
@@ -12,13 +12,13 @@ keys_in (HalfOpen opened) = Some opened.keys
 keys_in (Established keys) = Some keys
 keys_in (Closed keys at) = keys
 
--- the inbound SPI that was reserved for the first child
+-- the inbound SPI that was reserved for the first Child SA
 abbrev pub spi_in : Phase → Option ℕ
 spi_in (InitSent sent) = Some sent.child.spi
 spi_in (AuthSent sent) = Some sent.child.spi
 spi_in _ = None
 
--- that of the child which IKE_AUTH asked for
+-- that of the Child SA which IKE_AUTH asked for
 abbrev pub established_spi : Phase → Option ℕ
 established_spi (AuthSent sent) = Some sent.child.spi
 established_spi _ = None

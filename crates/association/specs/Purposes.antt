@@ -15,7 +15,7 @@ exchange_of Probe = INFORMATIONAL
 exchange_of (DeleteChild child) = INFORMATIONAL
 exchange_of DeleteAssociation = INFORMATIONAL
 
--- the association is to end (section 1.4.1)
+-- the IKE SA is to end (section 1.4.1)
 abbrev pub asks_to_end : Purpose → Bool
 asks_to_end Begin = false
 asks_to_end Identify = false
@@ -24,7 +24,7 @@ asks_to_end Probe = false
 asks_to_end (DeleteChild child) = false
 asks_to_end DeleteAssociation = true
 
--- it asks for a further child (section 1.3.1)
+-- it asks for an additional Child SA (section 1.3.1)
 abbrev pub asks_for_child : Purpose → Bool
 asks_for_child Begin = false
 asks_for_child Identify = false
@@ -33,7 +33,7 @@ asks_for_child Probe = false
 asks_for_child (DeleteChild child) = false
 asks_for_child DeleteAssociation = false
 
--- the inbound SPI that was reserved for that child
+-- the inbound SPI that was reserved for that Child SA
 abbrev pub spi_asked : Purpose → Option ℕ
 spi_asked Begin = None
 spi_asked Identify = None
@@ -42,14 +42,14 @@ spi_asked Probe = None
 spi_asked (DeleteChild child) = None
 spi_asked DeleteAssociation = None
 
--- a request of this end to end the association waits for its answer
+-- a request of this end to end the IKE SA waits for its answer
 pub record AwaitsDeletion (requests : OwnRequests Request) : Type 0 where
   pub number : ℕ
   pub request : Request
   pub outstanding : map.get requests.outstanding number ≡ Some request
   pub deletion : asks_to_end request.purpose ≡ true
 
--- the request of this number waits for its answer, and asks for a further child under this SPI
+-- the request with this Message ID waits for its answer, and asks for an additional Child SA under this SPI
 pub record AwaitsChild (requests : OwnRequests Request) (number spi : ℕ) : Type 0 where
   pub request : Request
   pub outstanding : map.get requests.outstanding number ≡ Some request
@@ -69,6 +69,7 @@ pub record AwaitsSome (requests : OwnRequests Request) : Type 0 where
   pub spi : ℕ
   pub awaits : AwaitsSpi requests spi
 
--- the request of this number asks for no further child, whose SPI would have to be given up with it
+-- the request with this Message ID asks for no additional Child SA, whose SPI would have to be given up with
+-- it
 abbrev pub AsksForNoFurtherChild : OwnRequests Request → ℕ → Type 0
 AsksForNoFurtherChild requests number = (request : Request) → map.get requests.outstanding number ≡ Some request → asks_for_child request.purpose ≡ false

@@ -1,5 +1,5 @@
--- What a message is to the association that it is for (RFC 7296 sections 2.1 to 2.3 and 3.14): by its
--- number, its exchange, the phase, and what it opens to.
+-- What a message is to the IKE SA that it is for (RFC 7296 sections 2.1 to 2.3 and 3.14): by its Message ID,
+-- its exchange, the phase, and what it opens to.
 use Rattle.std.specs.Prelude.{◌≡◌, ◌==◌, ◌≢◌, ◌||◌, ℕ, Bool, true, false, not, Option, Some, None, List, if◌then◌else◌}
 use Rattle.std.specs.FinMap as map
 use Rattle.base.specs.Octets.{Octets}
@@ -62,18 +62,18 @@ admits (HalfOpen opened) exchange = exchange == IKE_AUTH
 admits (Established keys) exchange = exchange == CREATE_CHILD_SA || exchange == INFORMATIONAL
 admits _ exchange = false
 
--- a request that did not take effect yet, by what it opens to
+-- a request that was not processed yet, by what it opens to
 abbrev pub fresh_reception : Phase → ℕ → Option Plain → Reception
 fresh_reception (Closed keys at) exchange plain = Refused WrongPhase
 fresh_reception phase exchange None = Refused NotOpened
 fresh_reception phase exchange (Some plain) = if admits phase exchange then TakesEffect plain else Refused WrongPhase
 
--- a request that took effect, and whose reply is kept
+-- a request that was processed, and whose response is cached
 abbrev pub repeated_reception : Octets → Option Plain → Reception
 repeated_reception reply None = Refused NotOpened
 repeated_reception reply (Some plain) = Repeat reply
 
--- a request, by what its number is judged to be
+-- a request, by what its Message ID is judged to be
 abbrev pub judged_reception : Phase → ℕ → Option Plain → Judgement → Reception
 judged_reception phase exchange plain judged.Fresh = fresh_reception phase exchange plain
 judged_reception phase exchange plain (judged.Repeat reply) = repeated_reception reply.now plain
@@ -92,7 +92,7 @@ answering_reception (InitSent sent) true plain = AnswersInitial
 answering_reception phase true None = Refused NotOpened
 answering_reception phase true (Some plain) = Answers plain
 
--- a response, by the outstanding request of its number
+-- a response, by the outstanding request with its Message ID
 abbrev pub reception_by : Phase → ℕ → Option Request → Option Plain → Reception
 reception_by (Closed keys at) exchange request plain = Refused WrongPhase
 reception_by phase exchange None plain = Refused OutsideWindow
@@ -147,15 +147,15 @@ pub record IsUndecided (a : Association) (m : Message) : Type 0 where
   pub encrypted : lone_body m.payloads ≢ None
   pub keyed : keys_in a.phase ≢ None
 
--- A request that takes effect: its number did not yet and lies in the window, its exchange belongs to the
--- phase, and it opens under the peer's keys.
+-- A request that is processed: its Message ID is not in effect yet and lies in the window, its exchange
+-- belongs to the phase, and it opens under the peer's keys.
 pub record IsEffective (plain_of : Opening) (a : Association) (octets : Octets) (m : Message) (plain : Plain) : Type 0 where
   pub request : m.header.flags.response ≡ false
   pub fresh : IsFreshRequest a.incoming m.header.id
   pub admitted : admits a.phase m.header.exchange ≡ true
   pub opened : opened_by plain_of a octets m.payloads ≡ Some plain
 
--- One that comes again: it took effect, its reply is kept, and it opens under the peer's keys.
+-- A retransmission: the request was processed, its response is cached, and it opens under the peer's keys.
 pub record IsRepeating (plain_of : Opening) (a : Association) (octets : Octets) (m : Message) (reply : Octets) : Type 0 where
   pub request : m.header.flags.response ≡ false
   pub in_effect : HasNumber a.incoming.in_effect m.header.id
@@ -163,7 +163,7 @@ pub record IsRepeating (plain_of : Opening) (a : Association) (octets : Octets) 
   pub plain : Plain
   pub opened : opened_by plain_of a octets m.payloads ≡ Some plain
 
--- The response to an outstanding request of its number and its exchange.
+-- The response to an outstanding request with its Message ID and its exchange.
 pub record IsAwaited (a : Association) (m : Message) : Type 0 where
   pub response : m.header.flags.response ≡ true
   pub open_yet : is_closed a.phase ≡ false

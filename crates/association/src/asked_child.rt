@@ -1,4 +1,4 @@
-//! A child that this end asked for.
+//! A Child SA that this end asked for.
 ghost use Rattle.std.specs.Prelude.{◌≡◌};
 ghost use Rattle.policy.specs.Narrowing.{IsSendableSelector};
 ghost use Rattle.association.specs.AskedChildren.{asked_of};
@@ -8,7 +8,7 @@ use children::Asked;
 use sadb::Spi;
 use std::marker::Model;
 
-/// A child that this end wants: with the association, by IKE_AUTH, or by an exchange of its own (RFC 7296,
+/// A Child SA that this end wants: with the IKE SA, by IKE_AUTH, or by an exchange of its own (RFC 7296,
 /// sections 1.2 and 1.3.1).
 #[derive(Drop)]
 pub struct AskedChild {
@@ -29,9 +29,9 @@ impl Model for AskedChild {
 }
 
 impl AskedChild {
-    /// A child with an inbound SPI that the table reserved, a selector of this end's side and one of the
-    /// peer's, and with extended sequence numbers where they are allowed (RFC 4303, section 2.2.1). The
-    /// caller gives selectors that a message can carry.
+    /// A Child SA with an inbound SPI that the table reserved, a selector of this end's side and one of the
+    /// peer's, and with ESN where it is allowed (RFC 4303, section 2.2.1). The caller gives selectors that a
+    /// message can carry.
     pub fn new(spi: Spi, local: Selector, remote: Selector, extended: bool) -> AskedChild
         requires local { IsSendableSelector local }
         requires remote { IsSendableSelector remote }

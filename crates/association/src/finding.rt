@@ -1,4 +1,4 @@
-//! Which association a message is for.
+//! Which IKE SA a message is for.
 ghost use Rattle.std.specs.Prelude.{◌≡◌, ◌==◌, ◌&&◌, Bool, not};
 ghost use Rattle.std.specs.List.{list_any, position};
 ghost use Rattle.association.specs.Finding.{answers_initial, place_meant, has_pair, is_meant, is_of_other_role, is_waiting, missing, sent_by_other};
@@ -8,9 +8,9 @@ use exchange::Role;
 use wire::Header;
 use wire::numbers::IKE_SA_INIT;
 
-/// The place of the association that a message with this header is for: the first that has its SPIs, and
-/// the other role than its sender claims by the flag I (RFC 7296, section 3.1). A response to IKE_SA_INIT
-/// names the responder's SPI for the first time, so one that waits for it is found by its own SPI alone.
+/// The place of the IKE SA that a message with this header is for: the first that has its SPIs, and the other
+/// role than its sender claims by the flag I (RFC 7296, section 3.1). A response to IKE_SA_INIT names the
+/// responder's SPI for the first time, so one that waits for it is found by its own SPI alone.
 ///
 /// Refused where there is none: [`MessageFault::WrongRole`] where one of the role that the sender claims
 /// has both SPIs, and [`MessageFault::UnknownAssociation`] otherwise. Takes no memory.

@@ -7,7 +7,7 @@ use base::Items;
 use requests::{Outgoing, Timer};
 use std::alloc::AllocError;
 
-/// A request that goes out for the first time at this moment.
+/// A request that first goes out at this time.
 pub fn new_request(octets: Items<u8>, purpose: Purpose, moment: u64) -> Request
     ensures { result ≡ new_request octets purpose moment }
 {
@@ -18,8 +18,8 @@ pub fn new_request(octets: Items<u8>, purpose: Purpose, moment: u64) -> Request
     }
 }
 
-/// These requests with one more, under the next number. An error is for want of memory, where the number
-/// may be issued.
+/// These requests with one more, under the next Message ID. Where that may be issued, an error is an
+/// allocation failure.
 pub fn issued(
     mut outgoing: Outgoing<Request>,
     request: Request,

@@ -21,7 +21,7 @@ use requests::laws::{
 };
 use sadb::laws::later_tables_are_determined;
 
-/// A message is one thing to an association.
+/// A message is one thing to an IKE SA.
 pub fn receptions_are_determined()
     ensures { (plain_of : Opening) (a : Association) (octets : Octets) (m : Message) (one other : Reception)
         → IsReceived plain_of a octets m one → IsReceived plain_of a octets m other → one ≡ other }
@@ -29,9 +29,9 @@ pub fn receptions_are_determined()
     judgements_are_determined();
 }
 
-/// What a message is to an association tells what is asked of the association: a request that takes effect
-/// is fresh, belongs to the phase and opens; a response answers an outstanding request, and opens but for
-/// that of IKE_SA_INIT.
+/// What a message is to an IKE SA tells what is asked of the IKE SA. A request that is processed is fresh,
+/// belongs to the phase and opens. A response answers an outstanding request, and opens but for that of
+/// IKE_SA_INIT.
 pub fn receptions_say_why()
     ensures effective { (plain_of : Opening) (a : Association) (octets : Octets) (m : Message) (plain : Plain)
         → IsReceived plain_of a octets m (TakesEffect plain) → IsEffective plain_of a octets m plain }
@@ -41,20 +41,20 @@ pub fn receptions_say_why()
         → IsReceived plain_of a octets m AnswersInitial → IsAnsweringInitial a m }
 {}
 
-/// A request that is answered by the same octets again took effect before: these are the reply that is kept
-/// of its number. It opens under the peer's keys.
+/// A request that is answered by the same octets again was processed before: these are the cached response of
+/// its Message ID. It opens under the peer's keys.
 pub fn repeats_say_why()
     ensures { (plain_of : Opening) (a : Association) (octets : Octets) (m : Message) (reply : Octets)
         → IsReceived plain_of a octets m (Repeat reply) → IsRepeating plain_of a octets m reply }
 {}
 
-/// A request that is fresh, belongs to the phase and opens takes effect.
+/// A request that is fresh, belongs to the phase and opens is processed.
 pub fn what_is_due_is_received()
     ensures { (plain_of : Opening) (a : Association) (octets : Octets) (m : Message) (plain : Plain)
         → IsEffective plain_of a octets m plain → IsReceived plain_of a octets m (TakesEffect plain) }
 {}
 
-/// What a message is to an association goes by what is held of it, whatever room there is.
+/// What a message is to an IKE SA goes by what is held of it, whatever spare capacity there is.
 pub fn receptions_go_by_content()
     ensures { (plain_of : Opening) (a b : Association) (octets : Octets) (m : Message) (reception : Reception)
         → association_content a ≡ association_content b → IsReceived plain_of a octets m reception
@@ -63,8 +63,7 @@ pub fn receptions_go_by_content()
     later_incoming_are_determined();
 }
 
-/// What is held of an association after its end, and what the table holds then, goes by what both held
-/// before.
+/// What is held of an IKE SA after its end, and what the table holds then, goes by what both held before.
 pub fn endings_are_determined()
     ensures { (old other a b : Association) (old_table other_table a_table b_table : Database) (moment : ℕ)
         → association_content old ≡ association_content other
@@ -76,9 +75,9 @@ pub fn endings_are_determined()
     later_outgoing_are_determined::<Request>();
 }
 
-/// The SPIs that an association holds for children stay reserved, each for one child: while the peer's
-/// requests change, while one of its own is answered, and while the table's room alone does; and wherever
-/// it holds none that it did not hold, and none of these is given up.
+/// The SPIs that an IKE SA holds for Child SAs stay reserved, each for one child: while the peer's requests
+/// change, while one of its own is answered, and while the table's spare capacity alone does. So they do
+/// wherever it holds none that it did not hold, and none of these is given up.
 pub fn spis_stay_held()
     ensures taking { (a : Association) (table : Database) (incoming : PeerRequests) → HoldsReserved a table
         → HoldsReserved (record a { incoming = incoming }) table }
@@ -95,8 +94,8 @@ pub fn spis_stay_held()
         → HoldsReserved b new }
 {}
 
-/// An association waits for a child's answer only where it asked for that child: none comes to be awaited
-/// while room is made, a request for something else is issued, a request is answered, or one is withdrawn.
+/// An IKE SA waits for a Child SA's answer only where it asked for that child: none comes to be awaited while
+/// room is made, a request for something else is issued, a request is answered, or one is withdrawn.
 pub fn children_are_asked_for()
     ensures preparing { (old new : OwnRequests Request) (number spi : ℕ) → HasSameOwnRequests old new
         → AwaitsChild new number spi → AwaitsChild old number spi }
@@ -113,7 +112,7 @@ pub fn children_are_asked_for()
         → AwaitsChild old number spi }
 {}
 
-/// Who is closed holds no SPI for a child.
+/// Who is closed holds no SPI for a Child SA.
 pub fn who_is_closed_holds_none()
     ensures { (old : Association) (table : Database) (moment : ℕ) (new : Association) (new_table : Database)
         (spi : ℕ)

@@ -1,6 +1,5 @@
-//! One association of IKE (RFC 7296, sections 1.1, 2.1 to 2.4 and 2.6): what an end holds of it in each
-//! phase, which association a message is for, and what the message's number, exchange and sealing allow it
-//! to be.
+//! One IKE SA (RFC 7296, sections 1.1, 2.1 to 2.4 and 2.6): what an end holds of it in each phase, which IKE
+//! SA a message is for, and what its Message ID, exchange and sealing allow it to be.
 //!
 //! An [`Association`] has its SPIs, its requests and the peer's ([`requests`]), and a [`Phase`] with what
 //! that phase alone has. [`find`] tells which of a list a message is for, and [`receive`] what is to be
@@ -20,13 +19,13 @@
 //!
 //! # How it is proved
 //!
-//! What a message is to an IKE SA follows from its phase, from how its Message ID is judged or which
-//! request it answers, and from what it opens to (`specs/Receiving`). `proofs/ReceivingLemmas` goes through
-//! the cases, so it is one thing alone, and each result says what was asked. `RepeatingLemmas` does so for
-//! retransmissions. An IKE SA that ends gives up its requests one after the other, with the SPIs of the
-//! children that they asked for. The loop's invariant is `GivesUpSome` (`GivingUpLemmas`), and it ends
-//! since one fewer is outstanding each time. `HeldLemmas` shows that reserved SPIs stay so under each
-//! change of an IKE SA.
+//! What a message is to an IKE SA follows from its phase, from how its Message ID is judged or which request
+//! it answers, and from what it opens to (`specs/Receiving`). `proofs/ReceivingLemmas` goes through the
+//! cases, so it is one thing alone, and each result says what was asked. `RepeatingLemmas` does so for
+//! retransmissions. An IKE SA that ends gives up its requests one after the other, with the SPIs of the Child
+//! SAs that they asked for. The loop's invariant is `GivesUpSome` (`GivingUpLemmas`), and it ends since one
+//! fewer is outstanding each time. `HeldLemmas` shows that reserved SPIs stay so under each change of an IKE
+//! SA.
 #![tactic(auto)]
 
 mod asked_child;

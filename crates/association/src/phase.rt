@@ -1,4 +1,4 @@
-//! What an end holds of one association.
+//! What an end holds of one IKE SA.
 ghost use Rattle.std.specs.Prelude.{◌≡◌, Some, None, MatchBool, MatchOption};
 ghost use Rattle.std.specs.Option.{option_copied};
 ghost use Rattle.std.specs.Prelude.{ℕ, IsSome};
@@ -17,10 +17,10 @@ use sadb::{Spi, Table};
 use std::mem;
 use suite::KeyRecord;
 
-/// An IKE association, as one end holds it.
+/// An IKE SA, as one end holds it.
 #[derive(Drop)]
 pub struct Association {
-    /// Its number at this end, from 1 on.
+    /// Its serial at this end, from 1 on.
     pub serial: u32,
     /// Whether this end began it: its original initiator (RFC 7296, section 2.2).
     pub role: Role,
@@ -47,10 +47,10 @@ pub struct Request {
     pub timer: Timer,
 }
 
-/// How far an association has come, with what that phase alone has.
+/// How far an IKE SA has come, with what that phase alone has.
 #[derive(Drop)]
 pub enum Phase {
-    /// This end asked for an association by IKE_SA_INIT, and waits for the response.
+    /// This end asked for an IKE SA by IKE_SA_INIT, and waits for the response.
     InitSent(InitSent),
     /// This end told who it is by IKE_AUTH, and waits for the response.
     AuthSent(AuthSent),
@@ -62,7 +62,7 @@ pub enum Phase {
     Closed {
         /// The keys, where both ends came to them.
         keys: Option<KeyRecord>,
-        /// The moment of closing, in milliseconds.
+        /// The time of closing, in milliseconds.
         at: u64,
     },
 }
@@ -75,9 +75,9 @@ pub struct InitSent {
     pub nonce: [u8; 32],
     /// The cookie that the request carries.
     pub cookie: Option<Items<u8>>,
-    /// How many cookies it has taken so far, that one counted.
+    /// How many cookies it has taken so far, that one included.
     pub cookies_taken: u8,
-    /// The child that IKE_AUTH is to ask for.
+    /// The Child SA that IKE_AUTH is to ask for.
     pub child: AskedChild,
 }
 
@@ -87,7 +87,7 @@ pub struct AuthSent {
     pub keys: KeyRecord,
     /// The responder's first message, over which its AUTH is computed (RealMessage2; RFC 7296, section 2.15).
     pub first: Items<u8>,
-    /// The child that was asked for.
+    /// The Child SA that was asked for.
     pub child: AskedChild,
 }
 
@@ -95,13 +95,13 @@ pub struct AuthSent {
 #[derive(Drop)]
 pub struct HalfOpen {
     pub keys: KeyRecord,
-    /// The initiator's first message, over which its AUTH is computed (RealMessage1; RFC 7296, section
-    /// 2.15), and by which its repeat is known.
+    /// The initiator's first message, over which its AUTH is computed (RealMessage1; RFC 7296, section 2.15),
+    /// and by which its retransmission is known.
     pub request: Items<u8>,
     /// This end's answer, over which its own AUTH is computed (RealMessage2), and which goes out again
     /// where the request comes again.
     pub reply: Items<u8>,
-    /// The moment at which it was made, in milliseconds.
+    /// The time at which it was made, in milliseconds.
     pub made: u64,
 }
 
@@ -128,15 +128,16 @@ impl Association {
         self.outgoing.any(|request| request.purpose.asks_to_end())
     }
 
-    /// Whether an SPI is reserved for a child that it asked for and that is still to come. Takes no memory.
+    /// Whether an SPI is reserved for a Child SA that it asked for and that is still to come. Takes no
+    /// memory.
     pub fn holds_spi(&self) -> bool
         ensures { MatchBool result (HoldsSomeSpi self.now) (HoldsNoSpi self.now) }
     {
         asks_first(&self.phase) || asks_further(&self.outgoing)
     }
 
-    /// Makes an association established whose IKE_AUTH is done; in any other phase than [`Phase::AuthSent`]
-    /// and [`Phase::HalfOpen`] nothing changes. The SPI is answered that was reserved for the first child,
+    /// Makes an IKE SA established whose IKE_AUTH is done; in any other phase than [`Phase::AuthSent`] and
+    /// [`Phase::HalfOpen`] nothing changes. The SPI is answered that was reserved for the first Child SA,
     /// where this end asked for one. Takes no memory.
     pub fn establish(&mut self) -> Option<Spi>
         ensures spi { result ≡ established_spi self.old.phase }
@@ -147,8 +148,8 @@ impl Association {
         spi
     }
 
-    /// Ends it at a moment, in milliseconds: it waits for no answer any more, its children are taken out of
-    /// the table, and the SPIs that were reserved for further ones are given up. What it answered is kept
+    /// Ends it at a time, in milliseconds: it waits for no answer any more, its Child SAs are taken out of
+    /// the table, and the SPIs that were reserved for additional ones are given up. What it answered is kept
     /// to be sent again. Takes no memory.
     ///
     /// The caller asks only where these SPIs are reserved in the table, each for one child.
@@ -169,7 +170,7 @@ impl Phase {
     const ENDED: Phase = Phase::Closed { keys: None, at: 0 };
 }
 
-// The phase that follows where both ends have proved who they are, and the SPI that the first child was to
+// The phase that follows where both ends have proved who they are, and the SPI that the first Child SA was to
 // have.
 fn established(phase: Phase) -> (Phase, Option<Spi>)
     ensures phase { result.0 ≡ established_of phase }
@@ -182,7 +183,7 @@ fn established(phase: Phase) -> (Phase, Option<Spi>)
     }
 }
 
-// Whether the first child is still to come.
+// Whether the first Child SA is still to come.
 fn asks_first(phase: &Phase) -> bool
     ensures { MatchBool result (IsSome (spi_in phase.now)) (spi_in phase.now ≡ None) }
 {
@@ -193,14 +194,14 @@ fn asks_first(phase: &Phase) -> bool
     }
 }
 
-// Whether a further child is.
+// Whether an additional Child SA is still to come.
 fn asks_further(requests: &Outgoing<Request>) -> bool
     ensures { MatchBool result (AwaitsSome requests.now) (AwaitsNone requests.now) }
 {
     requests.any(|request| request.purpose.asks_for_child())
 }
 
-// The keys, and the SPI that the first child was to have.
+// The keys, and the SPI that the first Child SA was to have.
 fn ended(phase: Phase) -> (Option<KeyRecord>, Option<Spi>)
     ensures keys { result.0 ≡ keys_in phase }
     ensures spi { result.1 ≡ spi_in phase }
@@ -214,7 +215,7 @@ fn ended(phase: Phase) -> (Option<KeyRecord>, Option<Spi>)
     }
 }
 
-// None of them waits for its answer any more, and the SPIs of the children that they asked for are given up.
+// None of them waits for its answer any more, and the SPIs of the Child SAs that they asked for are given up.
 fn give_up_requests(requests: &mut Outgoing<Request>, table: &mut Table)
     requires reserved { (spi : ℕ) → AwaitsSpi requests.old spi → IsReserved table.old spi }
     requires one { (number other spi : ℕ)

@@ -9,29 +9,29 @@ use wire::numbers::{CREATE_CHILD_SA, IKE_AUTH, IKE_SA_INIT, INFORMATIONAL};
 /// What a request of this end asks for (RFC 7296, section 1).
 #[derive(Drop)]
 pub enum Purpose {
-    /// An association, by IKE_SA_INIT (section 1.2).
+    /// An IKE SA, by IKE_SA_INIT (section 1.2).
     Begin,
-    /// To know this end, and the first child, by IKE_AUTH (section 1.2).
+    /// To know this end, and the first Child SA, by IKE_AUTH (section 1.2).
     Identify,
-    /// A further child, by CREATE_CHILD_SA (section 1.3.1).
+    /// An additional Child SA, by CREATE_CHILD_SA (section 1.3.1).
     CreateChild(FurtherChild),
     /// Whether the peer is there, by an empty request of INFORMATIONAL (section 2.4).
     Probe,
-    /// The end of a child (section 1.4.1).
+    /// The end of a Child SA (section 1.4.1).
     DeleteChild {
-        /// The serial of its pair in the table.
+        /// The serial of its SA pair in the table.
         child: u32,
     },
-    /// The end of the association with all its children (section 1.4.1).
+    /// The end of the IKE SA with all its Child SAs (section 1.4.1).
     DeleteAssociation,
 }
 
-/// A child that this end asked for by an exchange of its own (RFC 7296, section 1.3.1).
+/// A Child SA that this end asked for by an exchange of its own (RFC 7296, section 1.3.1).
 #[derive(Drop)]
 pub struct FurtherChild {
     /// What was asked for.
     pub child: AskedChild,
-    /// The nonce of the request, for the child's keys (section 2.17).
+    /// The nonce of the request, for the Child SA's keys (section 2.17).
     pub nonce: [u8; 32],
 }
 
@@ -50,7 +50,7 @@ impl Purpose {
         }
     }
 
-    /// Whether it is the end of the association.
+    /// Whether it is the end of the IKE SA.
     pub fn asks_to_end(&self) -> bool
         ensures { result ≡ asks_to_end self.now }
     {
@@ -60,7 +60,7 @@ impl Purpose {
         }
     }
 
-    /// Whether it is a further child.
+    /// Whether it is an additional Child SA.
     pub fn asks_for_child(&self) -> bool
         ensures { result ≡ asks_for_child self.now }
     {
@@ -70,7 +70,7 @@ impl Purpose {
         }
     }
 
-    /// The SPI of the child that it is, which is to be given back to the table.
+    /// The SPI of the Child SA that it is, which is to be given back to the table.
     pub fn into_spi(self) -> Option<Spi>
         ensures { result ≡ spi_asked self }
     {

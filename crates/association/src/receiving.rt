@@ -14,38 +14,38 @@ use suite::Sealer;
 use wire::Message;
 use wire::numbers::{CREATE_CHILD_SA, IKE_AUTH, INFORMATIONAL};
 
-/// What a message is to the association that it is for.
+/// What a message is to the IKE SA that it is for.
 #[derive(Debug, Drop)]
 pub enum Received {
-    /// It is passed over.
+    /// It is dropped.
     Refused(MessageFault),
-    /// A request that took effect before. These octets answered it, and answer it again (RFC 7296, section
+    /// A request that was processed before. These octets answered it, and answer it again (RFC 7296, section
     /// 2.1).
     Repeat(Items<u8>),
-    /// A request that is to take effect, with its payloads.
+    /// A request that is to be processed, with its payloads.
     Request(Plain),
-    /// The response to the outstanding request of its number, with its payloads.
+    /// The response to the outstanding request with its Message ID, with its payloads.
     Response(Plain),
     /// The response to IKE_SA_INIT, whose payloads are not encrypted.
     InitialResponse,
 }
 
-/// What a message is to the association that [`find`](crate::find) found for it (RFC 7296, sections 2.1 to
-/// 2.3 and 3.14). The octets are those that the message was decoded from.
+/// What a message is to the IKE SA that [`find`](crate::find) found for it (RFC 7296, sections 2.1 to 2.3 and
+/// 3.14). The octets are those that the message was decoded from.
 ///
-/// A response, in this order: [`MessageFault::WrongPhase`] where the association is closed,
-/// [`MessageFault::OutsideWindow`] where no request of its number is outstanding,
+/// A response, in this order: [`MessageFault::WrongPhase`] where the IKE SA is closed,
+/// [`MessageFault::OutsideWindow`] where no request with its Message ID is outstanding,
 /// [`MessageFault::WrongPhase`] where that has another exchange, and, but for IKE_SA_INIT,
 /// [`MessageFault::NotOpened`].
 ///
-/// A request: [`MessageFault::Forgotten`] or [`MessageFault::OutsideWindow`] by its number,
-/// [`MessageFault::WrongPhase`] where it is fresh and the association closed, [`MessageFault::NotOpened`];
-/// then one that took effect is a repeat, and a fresh one is refused by [`MessageFault::WrongPhase`] where
-/// its exchange doesn't belong to the phase: IKE_AUTH to a half-open association, CREATE_CHILD_SA and
+/// A request: [`MessageFault::Forgotten`] or [`MessageFault::OutsideWindow`] by its Message ID,
+/// [`MessageFault::WrongPhase`] where it is fresh and the IKE SA closed, [`MessageFault::NotOpened`]. Then
+/// one that was processed is a retransmission. A fresh one is refused by [`MessageFault::WrongPhase`] where
+/// its exchange doesn't belong to the phase: IKE_AUTH to a half-open IKE SA, CREATE_CHILD_SA and
 /// INFORMATIONAL to an established one.
 ///
-/// An error is for want of memory alone, which none but a message that is opened takes, and a reply that is
-/// answered again.
+/// The only error is an allocation failure. Memory is taken only for a message that is opened, and for a
+/// cached response that is sent again.
 pub fn receive<S: Sealer>(
     alloc: Global,
     sealer: &S,
@@ -122,7 +122,7 @@ fn receive_request<S: Sealer>(
     }
 }
 
-// A request that did not take effect yet, and lies in the window.
+// A request that was not processed yet, and lies in the window.
 fn receive_fresh<S: Sealer>(
     alloc: Global,
     sealer: &S,

@@ -167,7 +167,7 @@ read_if false window wide is = let least = is.least in grind (arith, nat_tests)
 pub read_again : (window : ℕ) → IsWindow window → peer_window (window_notices window) ≡ window
 read_again window is = read_if (nat_lt 1 window) window refl is
 
--- no notice that refuses a child tells a window
+-- no notification that refuses a Child SA tells a window
 tells_none : (notice : Notice) → window_in (payload_of_notice notice) ≡ None
 tells_none (UnsupportedCriticalPayload kind) = refl
 tells_none InvalidSyntax = refl

@@ -12,7 +12,7 @@ use Rattle.exchange.specs.declared.child.ChildAnswer.{ChildAnswer}
 use Rattle.exchange.specs.declared.child.ChildAnswer.TheVariants as answered
 use Rattle.auth.specs.declared.identity.Identity.{Identity}
 
--- the responder's identity, its proof, what answers the child, and its window
+-- the responder's identity, its proof, what answers the Child SA, and its window
 abbrev pub auth_answer : ℕ → (Octets → Octets) → Identity → ProvingView → ChildAnswer → ℕ → List Payload
 auth_answer own_method proof_of own what answer window =
     proved_identity Responder own_method proof_of own what

@@ -4,7 +4,7 @@ use Rattle.std.specs.List.{AllByRecursion, sum_by}
 use Rattle.wire.specs.Sizes.{size_of, FitsFields}
 use Rattle.wire.specs.declared.payload.Payload.{Payload}
 
--- octets of an ID payload, an AUTH payload and the notice of a window, at most
+-- octets of an ID payload, an AUTH payload and the notification of a window, at most
 abbrev pub OWN_LIMIT : ℕ
 OWN_LIMIT = 264 + 1032 + 12
 

@@ -33,8 +33,8 @@ pub record ProvingView : Type 0 where
 abbrev pub proving_view : Proving → ProvingView
 proving_view what = record { first = what.first.now; nonce = what.nonce.now; sk_p = what.sk_p.now }
 
--- What the end of this role proves over, with the keys of its association and the first message that it sent:
--- an initiator proves over the responder's nonce with SK_pi, a responder over the initiator's with SK_pr
+-- What the end of this role proves over, with the keys of its IKE SA and the first message that it sent: an
+-- initiator proves over the responder's nonce with SK_pi, a responder over the initiator's with SK_pr
 -- (section 2.15).
 abbrev pub proving_of : Role → KeyRecord → Octets → ProvingView
 proving_of Initiator keys first = record { first = first; nonce = keys.nonce_r; sk_p = keys.sk_pi }

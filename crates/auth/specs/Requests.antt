@@ -17,7 +17,7 @@ use Rattle.auth.specs.declared.requesting.Judgement.{Judgement}
 use Rattle.auth.specs.declared.requesting.Judgement.TheVariants as judged
 use Rattle.auth.specs.declared.requesting.Parts.{Parts}
 
--- the initiator's identity, its proof, what is asked for its child, and its window
+-- the initiator's identity, its proof, what is asked for its Child SA, and its window
 abbrev pub auth_request : ℕ → (Octets → Octets) → Identity → ProvingView → ChildPayloads → ℕ → List Payload
 auth_request own_method proof_of own what child window =
     proved_identity Initiator own_method proof_of own what ++ child_payloads child ++ window_notices window

@@ -21,7 +21,8 @@ pub record IsWindow (window : ℕ) : Type 0 where
   pub least : WINDOW_LEAST ≤ window
   pub widest : window ≤ WINDOW_LIMIT
 
--- an end tells its window by a notice with no protocol and no SPI (section 3.10), and a number of four octets
+-- an end tells its window by a notification with no protocol and no SPI (section 3.10), and a number of four
+-- octets
 abbrev pub window_payload : ℕ → Payload
 window_payload window = Notify 0 [] SET_WINDOW_SIZE (to_be_bytes w32 window)
 
@@ -33,7 +34,7 @@ window_notices window = if nat_lt WINDOW_LEAST window then window_payload window
 abbrev pub window_within : ℕ → ℕ
 window_within number = min (max number WINDOW_LEAST) WINDOW_LIMIT
 
--- the window that a notice tells: of this type, with four octets
+-- the window that a notification tells: of this type, with four octets
 abbrev pub told_window : ℕ → Octets → Option ℕ
 told_window kind octets =
     if kind == SET_WINDOW_SIZE && length octets == 4
@@ -43,6 +44,6 @@ abbrev pub window_in : Payload → Option ℕ
 window_in (Notify protocol spi kind octets) = told_window kind octets
 window_in _ = None
 
--- the first notice that tells a window counts
+-- the first notification that tells a window counts
 abbrev pub peer_window : List Payload → ℕ
 peer_window payloads = unwrap_or (first_some window_in payloads) WINDOW_LEAST

@@ -17,8 +17,8 @@ use suite::Proof;
 use wire::Payload;
 
 /// The payloads of the answer to a request that was accepted (RFC 7296, section 1.2): IDr and AUTH of this
-/// end, what answers the child, and, where its window (1 to 16 requests) is above 1, the notice that tells
-/// it. The proof in it fits its payload. An error is for want of memory alone.
+/// end, what answers the Child SA, and, where its window (1 to 16 requests) is above 1, the notification that
+/// tells it. The proof in it fits its payload. The only error is an allocation failure.
 pub fn answer<C: Proof>(
     alloc: Global,
     caller: &C,
@@ -45,7 +45,7 @@ pub fn answer<C: Proof>(
 /// ([`is_proved`]). All else is passed over. That a critical payload is, too, is a rule of this
 /// implementation against section 2.5, which has the initiator ignore such an answer.
 ///
-/// An error is for want of memory alone, and none comes where an IDr or an AUTH is missing or there twice,
+/// The only error is an allocation failure, and none comes where an IDr or an AUTH is missing or there twice,
 /// or another identity is named.
 pub fn is_accepted<C: Proof>(
     alloc: Global,

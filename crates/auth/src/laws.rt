@@ -33,7 +33,7 @@ pub fn who_is_accepted_proved_itself()
         → ProvesItself accepts peer what (only_id_r payloads) (only_auth payloads) }
 {}
 
-/// Where the identity is one, and the proof and the payloads of the child fit, all payloads that are sent
+/// Where the identity is one, and the proof and the payloads of the Child SA fit, all payloads that are sent
 /// have what their fields allow, with at most 1308 octets beside those of the child.
 pub fn what_is_sent_fits()
     ensures request { (own_method : ℕ) (proof_of : Octets → Octets) (own : Identity)
@@ -50,8 +50,8 @@ pub fn what_is_sent_fits()
         (auth_answer own_method proof_of own what answer window) }
 {}
 
-/// A request of the peer whose proof is accepted is judged so, with the content of the child and the window
-/// that it was made of.
+/// A request of the peer whose proof is accepted is judged so, with the content of the Child SA and the
+/// window that it was made of.
 pub fn requests_are_accepted()
     ensures { (accepts : Accepts) (own_method : ℕ) (proof_of : Octets → Octets) (own : Identity)
         (what : ProvingView) (child : ChildPayloads) (window : ℕ) → IsWindow window
@@ -61,7 +61,7 @@ pub fn requests_are_accepted()
         (Accepted (record { child = child; window = window })) }
 {}
 
-/// An answer of the peer whose proof is accepted is accepted, whether its child is made or not.
+/// An answer of the peer whose proof is accepted is accepted, whether its Child SA is made or not.
 pub fn answers_are_accepted()
     ensures { (accepts : Accepts) (own_method : ℕ) (proof_of : Octets → Octets) (own : Identity)
         (what : ProvingView) (answer : ChildAnswer) (window : ℕ)

@@ -1,12 +1,12 @@
-//! Who the two ends of an IKE association are (RFC 7296, sections 1.2, 2.3, 2.15, 3.5 and 3.8): what the
-//! messages of IKE_AUTH say of identities, of their proofs and of windows. No association, number, timer or
-//! child is known here.
+//! Who the two ends of an IKE SA are (RFC 7296, sections 1.2, 2.3, 2.15, 3.5 and 3.8): what the messages of
+//! IKE_AUTH say of identities, of their proofs and of windows. No IKE SA, Message ID, timer or Child SA is
+//! known here.
 //!
-//! An initiator sends the payloads of [`request`], and a responder makes of them what [`judge`] tells:
-//! where it doesn't refuse them by a notice, it sends those of [`answer`], and the initiator asks
-//! [`is_accepted`] who sent them. Each end proves by [`prove`] what its [`Proving`] and its [`Identity`]
-//! say, and the other looks at it by [`is_proved`]; it tells its window by [`window_notice`], and the other
-//! reads it by [`peer_window`]. The content of a child comes from the caller, as
+//! An initiator sends the payloads of [`request`], and a responder makes of them what [`judge`] tells: where
+//! it doesn't refuse them by a notification, it sends those of [`answer`], and the initiator asks
+//! [`is_accepted`] who sent them. Each end proves by [`prove`] what its [`Proving`] and its [`Identity`] say,
+//! and the other looks at it by [`is_proved`]; it tells its window by [`window_notice`], and the other reads
+//! it by [`peer_window`]. The content of a child comes from the caller, as
 //! [`ChildPayloads`](exchange::ChildPayloads), and proofs are made and accepted by the caller's
 //! [`Proof`](suite::Proof). What follows from the definitions alone is in [`laws`].
 //!

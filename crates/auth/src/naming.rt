@@ -61,8 +61,8 @@ impl Identity {
         named(alloc, ID_RFC822_ADDR, name.as_bytes())
     }
 
-    /// The identity of an IPv4 address (ID_IPV4_ADDR), of its octets as they stand in a packet. Refused for
-    /// want of memory alone ([`IdentityFault::Memory`]).
+    /// The identity of an IPv4 address (ID_IPV4_ADDR), of its octets as they stand in a packet. Refused
+    /// because of an allocation failure alone ([`IdentityFault::Memory`]).
     pub fn address(alloc: Global, octets: [u8; 4]) -> Result<Identity, IdentityFault>
         ensures named { IfOk result (λ identity. identity ≡ identity_of ID_IPV4_ADDR octets) }
         ensures fits { IfOk result IsIdentity }

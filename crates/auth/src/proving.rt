@@ -27,8 +27,8 @@ pub struct Proving<'a> {
 
 impl<'a> Proving<'a> {
     /// What the end of this role in IKE_SA_INIT proves over (RFC 7296, section 2.15), with the keys of the
-    /// association and the first message that this end sent: an initiator over the responder's nonce, with
-    /// SK_pi, a responder over the initiator's, with SK_pr.
+    /// IKE SA and the first message that this end sent: an initiator over the responder's nonce, with SK_pi,
+    /// a responder over the initiator's, with SK_pr.
     pub fn of(role: Role, keys: &'a KeyRecord, first: &'a [u8]) -> Proving<'a>
         ensures { proving_view result ≡ proving_of role keys.now first.now }
     {
@@ -77,8 +77,8 @@ fn id_payload(alloc: Global, role: Role, own: &Identity) -> Result<Payload, Allo
     })
 }
 
-/// The AUTH payload by which an end of this identity proves itself (RFC 7296, section 3.8). An error is for
-/// want of memory alone.
+/// The AUTH payload by which an end of this identity proves itself (RFC 7296, section 3.8). The only error is
+/// an allocation failure.
 pub fn prove<C: Proof>(
     alloc: Global,
     caller: &C,
@@ -117,8 +117,8 @@ pub(crate) fn are_octets(octets: &[u8])
 }
 
 /// Whether the identity that is named is the peer's, by its type and its data, and the caller accepts of it
-/// the AUTH payload's method and data, `proof`, over what the peer has to prove (RFC 7296, section 2.15).
-/// An error is for want of memory alone, and none comes where another identity is named.
+/// the AUTH payload's method and data, `proof`, over what the peer has to prove (RFC 7296, section 2.15). The
+/// only error is an allocation failure, and none comes where another identity is named.
 pub fn is_proved<C: Proof>(
     alloc: Global,
     caller: &C,

@@ -18,9 +18,9 @@ use std::alloc::{AllocError, Global};
 use suite::Proof;
 use wire::Payload;
 
-/// The payloads of the request (RFC 7296, section 1.2): IDi and AUTH of this end, the three of its child,
-/// and, where its window (1 to 16 requests) is above 1, the notice that tells it. The proof in it fits its
-/// payload. An error is for want of memory alone.
+/// The payloads of the request (RFC 7296, section 1.2): IDi and AUTH of this end, the three of its Child SA,
+/// and, where its window (1 to 16 requests) is above 1, the notification that tells it. The proof in it fits
+/// its payload. The only error is an allocation failure.
 pub fn request<C: Proof>(
     alloc: Global,
     caller: &C,
@@ -45,7 +45,7 @@ pub fn request<C: Proof>(
 /// What an accepted request asks for.
 #[derive(Clone, Copy)]
 pub struct Asked<'a> {
-    /// The child (RFC 7296, section 1.2).
+    /// The Child SA (RFC 7296, section 1.2).
     pub offer: ChildOffer<'a>,
     /// The initiator's window, 1 to 16 requests (section 2.3).
     pub window: u8,
@@ -54,7 +54,7 @@ pub struct Asked<'a> {
 /// What a responder makes of a request.
 #[derive(Clone, Copy)]
 pub enum Judgement<'a> {
-    /// It is answered by this notice alone.
+    /// It is answered by this notification alone.
     Refused(Notice),
     /// The peer proved who it is.
     Accepted(Asked<'a>),
@@ -63,14 +63,14 @@ pub enum Judgement<'a> {
 /// What a responder makes of the payloads of a request, which `peer` is to have sent. The first that
 /// applies, in this order:
 ///
-/// 1. An unknown payload is marked as critical: the notice UNSUPPORTED_CRITICAL_PAYLOAD, for the first (RFC
-///    7296, section 2.5).
+/// 1. An unknown payload is marked as critical: the UNSUPPORTED_CRITICAL_PAYLOAD notification, for the first
+///    (RFC 7296, section 2.5).
 /// 2. There is not exactly one IDi, AUTH, SA, TSi and TSr each: INVALID_SYNTAX (section 3.10.1).
 /// 3. The IDi is not the peer's, or it is not proved ([`is_proved`]): AUTHENTICATION_FAILED (section
 ///    2.21.2).
 /// 4. [`Judgement::Accepted`].
 ///
-/// An error is for want of memory alone, and none comes in place of a refusal that doesn't hang on the
+/// The only error is an allocation failure, and none comes in place of a refusal that doesn't hang on the
 /// proof: the first two, and the third where another identity is named.
 pub fn judge<'a, C: Proof>(
     alloc: Global,

@@ -15,8 +15,8 @@ const WINDOW_LEAST: u8 = 1;
 // The widest window that counts, a limit of this implementation.
 const WINDOW_LIMIT: u8 = 16;
 
-/// The notice SET_WINDOW_SIZE by which an end tells its window, 1 to 16 requests (RFC 7296, section 2.3),
-/// with protocol 0 and no SPI. An error is for want of memory alone.
+/// The SET_WINDOW_SIZE notification by which an end tells its window, 1 to 16 requests (RFC 7296, section
+/// 2.3), with protocol 0 and no SPI. The only error is an allocation failure.
 pub fn window_notice(alloc: Global, window: u8) -> Result<Payload, AllocError>
     requires { IsWindow window }
     ensures { IfOk result (λ payload. payload ≡ window_payload window) }
@@ -29,7 +29,7 @@ pub fn window_notice(alloc: Global, window: u8) -> Result<Payload, AllocError>
     })
 }
 
-// Adds the notice where the window is not the one that this end has untold.
+// Adds the notification where the window is not the one that this end has untold.
 pub(crate) fn push_window(
     alloc: Global,
     payloads: &mut Items<Payload>,
@@ -44,9 +44,9 @@ pub(crate) fn push_window(
     Ok(())
 }
 
-/// The window that the peer tells in these payloads (RFC 7296, section 2.3): that of the first notice
-/// SET_WINDOW_SIZE with four octets of data, whatever protocol and SPI it names, where 0 counts as 1 and
-/// more than 16 as 16. Without one it is 1. Takes no memory.
+/// The window that the peer tells in these payloads (RFC 7296, section 2.3): that of the first
+/// SET_WINDOW_SIZE notification with four octets of data, whatever protocol and SPI it names, where 0 counts
+/// as 1 and more than 16 as 16. Without one it is 1. Takes no memory.
 pub fn peer_window(payloads: &[Payload]) -> u8
     ensures { result ≡ peer_window payloads.now }
 {

@@ -64,7 +64,7 @@ impl<T> Items<T> {
         self.vec.is_empty()
     }
 
-    /// Adds an item at the end. For want of memory the list stays as it was, and the item comes back.
+    /// Adds an item at the end. On allocation failure the list stays as it was, and the item comes back.
     pub fn push(&mut self, item: T) -> Result<(), AllocFailed<T>>
         ensures ok { OnOk result (self.new ≡ self.old ++ item ∷ []) }
         ensures err { OnErr result (self.new ≡ self.old) }

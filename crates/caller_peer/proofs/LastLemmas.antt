@@ -48,7 +48,7 @@ last_decrypted key (suc n) before text before_long whole =
     ∙ last_decrypted key n (take 16 text) (drop 16 text) (length-take-le 16 text (omega arith)) rest_whole
     ∙ (λ i. both (decrypted key (skipped text n i)) (take 16 (middle i)))
 
--- sixteen octets of what stands before a check value
+-- sixteen octets of what stands before an ICV
 part_of : (body : List ℕ) (from count end : ℕ) → from + count ≡ end → 16 ≤ count → take 16 (drop from (take end body)) ≡ take 16 (drop from body)
 part_of body from count end is enough =
     ap (λ (n : ℕ). take 16 (drop from (take n body))) (sym is)

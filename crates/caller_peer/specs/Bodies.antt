@@ -27,7 +27,7 @@ padding plain = zeros (pad_length plain) ++ pad_length plain ∷ []
 abbrev pub blocks_of : ℕ → ℕ
 blocks_of plain = plain / 16 + 1
 
--- a body is the vector, these blocks and the check value
+-- a body is the vector, these blocks and the ICV
 abbrev pub body_size : ℕ → ℕ
 body_size plain = 16 + 16 * blocks_of plain + 16
 
@@ -36,7 +36,7 @@ unfoldable pub encrypted_part : Keys → List ℕ → List ℕ → List ℕ
 encrypted_part keys plain vector =
     vector ++ cbc_encrypted keys.encryption vector (blocks_of (length plain)) (plain ++ padding (length plain))
 
--- the check value goes over what stands before the body, vector and encrypted blocks
+-- the ICV goes over what stands before the body, vector and encrypted blocks
 unfoldable pub check_value : Keys → List ℕ → List ℕ → List ℕ
 check_value keys head sealed = icv_sha256 keys.integrity (head ++ sealed)
 
@@ -49,7 +49,7 @@ unpadded text =
     let pad = slice_index text (length text - 1) in
     if nat_lt pad (length text) then Some (take (length text - 1 - pad) text) else None
 
--- a vector, one block or more and a check value, and the very check value
+-- a vector, one block or more and an ICV, and the very ICV
 unfoldable pub is_intact : Keys → List ℕ → List ℕ → Bool
 is_intact keys head body =
     let end = length body - 16 in

@@ -206,7 +206,7 @@ all_three a b c is_a is_b is_c = rw (is_a, is_b, is_c) refl
 picked : (t : Bool) (x y : Option (List ℕ)) → t ≡ true → x ≡ y → (if t then x else None) ≡ y
 picked t x y is same = rw is same
 
--- vector, blocks and check value, told apart
+-- vector, blocks and ICV, told apart
 pub opens_parts : (keys : Keys) (head vector blocks value plain : List ℕ) (m : ℕ) →
     length vector ≡ 16 → length blocks ≡ 16 * (m + 1) → length value ≡ 16 → value ≡ check_value keys head (vector ++ blocks) →
     unpadded (cbc_decrypted keys.encryption vector (m + 1) blocks) ≡ Some plain →

@@ -13,7 +13,7 @@ pub record IsPadded (plain text : List ℕ) : Type 0 where
   pub octets : AreOctets text
   pub filled : length text % 16 ≡ 0
 
--- a vector, the padded text encrypted behind it, and the check value over head, vector and blocks
+-- a vector, the padded text encrypted behind it, and the ICV over head, vector and blocks
 pub record IsBodyOf (keys : Keys) (head plain body : List ℕ) : Type 0 where
   pub vector : List ℕ
   pub text : List ℕ

@@ -12,7 +12,7 @@ ghost use Rattle.caller_peer.specs.SharedKeys.{IsProved, is_accepted};
 ghost use Rattle.caller_peer.specs.declared.shared_key.Peer.{Peer};
 
 /// A body opens to a plain text exactly if it is a vector of 16 octets, the plain text encrypted behind it
-/// with a padding of fewer than 256 octets and an octet that tells how many, and the check value over head,
+/// with a padding of fewer than 256 octets and an octet that tells how many, and the ICV over head,
 /// vector and blocks (RFC 7296, section 3.14).
 pub fn bodies_open_as_made()
     ensures { (keys : Keys) (head plain body : List ℕ) → AreKeys keys → AreOctets body
@@ -44,7 +44,7 @@ pub fn both_ends_come_to_one_power()
 {}
 
 /// What is made of a plain text is what section 3.14 of RFC 7296 has a body be, with zeros for padding, as
-/// few as fill a block: the fresh octets, the blocks chained behind them (RFC 3602), and the check value
+/// few as fill a block: the fresh octets, the blocks chained behind them (RFC 3602), and the ICV
 /// over head, fresh octets and blocks.
 pub fn bodies_are_sealed_as_said()
     ensures { (keys : Keys) (head plain fresh body : List ℕ) → AreSealable keys head plain fresh

@@ -13,7 +13,7 @@
 //! are laws: [`laws`].
 //!
 //! Nothing here hides how long a call takes: tables are read by secret octets, powers branch on secret
-//! bits, and a check value or a proof is compared up to its first wrong octet.
+//! bits, and an ICV or a proof is compared up to its first wrong octet.
 //!
 //! ```rust
 //! use base::Items;

@@ -16,7 +16,7 @@ use suite::{Cipher, Keys, Sealer};
 // ENCR_AES_CBC (RFC 7296, section 3.3.2).
 const AES_CBC: u16 = 12;
 
-// The octets of a check value (RFC 4868, section 2.3).
+// The octets of an ICV (RFC 4868, section 2.3).
 const CHECK_VALUE: usize = 16;
 
 /// The 16 fresh octets are a body's initialization vector: in CBC mode nobody may foretell them (RFC 3602,
@@ -78,7 +78,7 @@ impl Sealer for PeerCaller {
         // What doesn't open takes no memory.
         ensures unopened { opened_body keys.now head.now body.now ≡ None
             → (result ≡ Ok false) × (out.new.items ≡ out.old.items) }
-        // What is written are the blocks, all but vector and check value.
+        // What is written are the blocks, all but vector and ICV.
         ensures room { vec_len out.old + length body.now ≤ vec_capacity out.old + 32 → IsOk result }
     {
         if !is_intact(keys, head, body) {
@@ -180,7 +180,7 @@ fn last_block(keys: &Keys, body: &[u8]) -> [u8; BLOCK]
     both(&Aes256::new(&keys.encryption).decrypt_block(&last), &before)
 }
 
-// The check value over what stands before the body, vector and encrypted blocks.
+// The ICV over what stands before the body, vector and encrypted blocks.
 #[tactic(auto, unfolding(crate::specs::Bodies::check_value))]
 fn check_value(keys: &Keys, head: &[u8], sealed: &[u8]) -> [u8; CHECK_VALUE]
     ensures { result ≡ check_value keys.now head.now sealed.now }
@@ -188,7 +188,7 @@ fn check_value(keys: &Keys, head: &[u8], sealed: &[u8]) -> [u8; CHECK_VALUE]
     icv(&keys.integrity, &[head, sealed])
 }
 
-// Whether a body has a vector, a block or more and the right check value.
+// Whether a body has a vector, a block or more and the right ICV.
 #[tactic(auto, unfolding(crate::specs::Bodies::is_intact))]
 fn is_intact(keys: &Keys, head: &[u8], body: &[u8]) -> bool
     ensures { result ≡ is_intact keys.now head.now body.now }

@@ -27,7 +27,7 @@ script_public secret = secret
 abbrev pub script_size : ℕ → ℕ
 script_size plain = plain + 17
 
--- what follows the plain text: an octet 00, and the check value over head, plain text and that octet
+-- what follows the plain text: an octet 00, and the ICV over head, plain text and that octet
 abbrev pub tail_of : Keys → List ℕ → List ℕ → List ℕ
 tail_of keys head plain = 0 ∷ icv_sha256 keys.integrity (head ++ plain ++ 0 ∷ [])
 

@@ -82,7 +82,7 @@ impl Sealer for ScriptCaller {
     ghost size_bounded = { sizes };
 }
 
-// An octet 00, and the check value over head, plain text and that octet.
+// An octet 00, and the ICV over head, plain text and that octet.
 fn tail_of(keys: &Keys, head: &[u8], plain: &[u8]) -> [u8; TAIL]
     ensures { result ≡ tail_of keys.now head.now plain.now }
 {

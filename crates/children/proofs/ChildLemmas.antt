@@ -1,4 +1,4 @@
--- What each end makes is its pair of the child; and what a responder answers, an initiator accepts.
+-- What each end makes is its SA pair of the Child SA; and what a responder answers, an initiator accepts.
 use Rattle.std.proofs.Common.{◌≡◌, ◌<◌, ◌≤◌, ◌^◌, ℕ, zero, suc, ◌==◌, Bool, true, false, List, [], ◌∷◌, Some, Contains, refl, sym, ap, subst, ◌∙◌, arith}
 use Rattle.std.proofs.lemmas.Bool.{eq-eqb}
 use Rattle.byteorder.specs.Endian.{big_bytes, big_number}
@@ -34,7 +34,7 @@ numbers_answered : (allowed extended : Bool) → numbers_in (answered_transforms
 numbers_answered allowed true = refl
 numbers_answered allowed false = refl
 
--- what is acceptable for a child is for ESP
+-- what is acceptable for a Child SA is for ESP
 for_esp : (allowed : Bool) (p : Proposal) → IsAcceptableProposal (Esp allowed) p → IsForEsp p
 for_esp allowed p x = record { protocol = x.protocol; spi = x.spi.0 }
 

@@ -76,7 +76,7 @@ pub answered_by_content : (setting : Setting) (extended : Bool) (entries : List 
 answered_by_content setting extended entries table other offer (response.Made made) same is = made_by_content setting extended entries table other offer made same is
 answered_by_content setting extended entries table other offer (response.Refused notice) same is = refused_by_content extended entries table other offer notice same is
 
--- what the law of tables says of an SPI that is given and of a pair that comes
+-- what the law of tables says of an SPI that is given and of an SA pair that comes
 pub record TableLaws : Type 0 where
   pub reserved : (old other a b : Database) (spi mark : ℕ) → table_content old ≡ table_content other → Reserves old spi a → Reserves other mark b → (spi ≡ mark) × (table_content a ≡ table_content b)
   pub installed : (old other a b : Database) (spi mark : ℕ) (pair : Pair) (serial number : ℕ) → table_content old ≡ table_content other → Installs old spi pair serial a → Installs other mark pair number b

@@ -1,4 +1,4 @@
--- The payloads of a child can be written, and are short.
+-- The payloads of a Child SA can be written, and are short.
 use Rattle.std.proofs.Common.{◌≡◌, ◌<◌, ◌≤◌, ◌+◌, ◌*◌, ◌^◌, ℕ, zero, suc, Bool, true, false, List, [], ◌∷◌, length, slice_get, Some, refl, sym, ap, subst, ◌∙◌, arith}
 use Rattle.std.specs.List.{AllByRecursion, sum_by}
 use Rattle.std.proofs.lemmas.List.Sums.{sum_by-cons}
@@ -57,7 +57,7 @@ selectors_short (s ∷ ss) =
 abbrev esp_proposal : ℕ → ℕ → List Transform → Proposal
 esp_proposal number spi transforms = record { number = number; protocol = 3; spi = big_bytes 4 spi; transforms = transforms }
 
--- transforms for a child: at most four, without attributes
+-- transforms for a Child SA: at most four, without attributes
 record AreFew (ts : List Transform) : Type 0 where
   some : 1 ≤ length ts
   few : length ts ≤ 4

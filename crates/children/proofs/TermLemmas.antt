@@ -1,4 +1,5 @@
--- Two ends that read a request and its reply agree on one list of terms, and their pairs mirror each other.
+-- Two ends that read a request and its reply agree on one list of terms, and their SA pairs mirror each
+-- other.
 use Rattle.std.proofs.Common.{◌≡◌, ℕ, ◌==◌, Bool, true, false, List, [], ◌∷◌, slice_get, Some, refl, sym, ap, subst, ◌∙◌, arith}
 use Rattle.std.specs.List.{filter}
 use Rattle.byteorder.specs.Endian.{big_number}

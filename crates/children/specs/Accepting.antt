@@ -30,7 +30,7 @@ pub record AreAcceptedTerms (asked : Asked) (answer : List Payload) (terms : Ter
   pub inside_i : AnswersOffer terms.ts_i (asked.local ∷ [])
   pub inside_r : AnswersOffer terms.ts_r (asked.remote ∷ [])
 
--- the pair that an initiator has by an acceptable answer
+-- the SA pair that an initiator has by an acceptable answer
 pub record IsAcceptedChild (setting : Setting) (asked : Asked) (answer : List Payload) (pair : Pair)
     : Type 0 where
   pub terms : Terms
@@ -41,8 +41,8 @@ pub record IsAcceptedChild (setting : Setting) (asked : Asked) (answer : List Pa
 abbrev pub IsUnacceptable : Asked → List Payload → Type 0
 IsUnacceptable asked answer = (terms : Terms) → ¬ AreAcceptedTerms asked answer terms
 
--- The pair keeps to what was asked: it receives under the SPI that was given, its selectors lie inside
--- those asked for, and its numbers are extended only where that was allowed.
+-- The SA pair keeps to what was asked: it receives under the SPI that was given, its selectors lie inside
+-- those asked for, and ESN is used only where that was allowed.
 pub record KeepsToRequest (asked : Asked) (pair : Pair) : Type 0 where
   pub spi : pair.inbound.association.spi ≡ asked.spi
   pub local : AnswersOffer pair.local (asked.local ∷ [])

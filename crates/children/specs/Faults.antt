@@ -11,14 +11,15 @@ code_of_memory_fault Window = 20
 code_of_memory_fault Narrowing = 24
 code_of_memory_fault Table = 27
 
--- for what a pair holds: its replay window, or its selectors
+-- for what an SA pair holds: its replay window, or its selectors
 abbrev pub IsWantOfPair : MemoryFault → Type 0
 IsWantOfPair Message = ⊥
 IsWantOfPair Window = Unit {0}
 IsWantOfPair Narrowing = Unit {0}
 IsWantOfPair Table = ⊥
 
--- at the end that answers: for the pair's place in the table only where that takes more pairs and has no room
+-- at the end that answers: for the SA pair's place in the table only where that takes more pairs and has no
+-- room
 abbrev pub CanBeWanted : Database → MemoryFault → Type 0
 CanBeWanted d Message = Unit {0}
 CanBeWanted d Window = Unit {0}

@@ -1,5 +1,4 @@
--- The pair of associations that an end has of a child (RFC 7296 sections 1.2 and 2.17, RFC 4301 section
--- 4.4.2).
+-- The pair of SAs that an end has of a Child SA (RFC 7296 sections 1.2 and 2.17, RFC 4301 section 4.4.2).
 use Rattle.std.specs.Prelude.{◌≡◌, ◌≤◌, ℕ, List, [], ◌∷◌, length}
 use Rattle.base.specs.declared.selector.Selector.{Selector}
 use Rattle.wire.specs.Numbers.{SELECTOR_LIMIT}
@@ -49,7 +48,7 @@ local_of Responder terms = terms.ts_r
 abbrev pub remote_of : Role → Terms → List Selector
 remote_of role terms = local_of (other_role role) terms
 
--- the pair as it is made: no serial yet, no number sent or taken
+-- the SA pair as it is made: no serial yet, no number sent or taken
 abbrev pub new_pair : Role → Setting → Terms → Pair
 new_pair role setting terms = record {
   serial = 0;
@@ -69,7 +68,8 @@ pub record HasFewSelectors (pair : Pair) : Type 0 where
   pub local : length pair.local ≤ SELECTOR_LIMIT
   pub remote : length pair.remote ≤ SELECTOR_LIMIT
 
--- The pair is what the end of this role has of the child that a request and its reply made, under these keys.
+-- The SA pair is what the end of this role has of the Child SA that a request and its reply made, under these
+-- keys.
 pub record IsChild (role : Role) (keys : List (List ℕ)) (request reply : List Payload) (pair : Pair)
     : Type 0 where
   pub terms : Terms

@@ -35,7 +35,7 @@ pub record OffersSome (extended : Bool) (offer : ChildPayloads) : Type 0 where
 abbrev pub CanBeNarrowed : List Entry → ChildPayloads → Type 0
 CanBeNarrowed entries offer = IsAcceptableOffer entries offer.ts_i offer.ts_r
 
--- the table has no place for another pair, or no SPI
+-- the table has no place for another SA pair, or no SPI
 abbrev pub TakesNoMore : Database → Type 0
 TakesNoMore table = IsFull table ⊎ IsSpent table
 
@@ -55,14 +55,14 @@ child_response wanted chosen terms = record {
   ts_r = terms.ts_r;
 }
 
--- that, and the responder's pair
+-- that, and the responder's SA pair
 abbrev pub made_of : Setting → Wanted → Chosen → Terms → Made
 made_of setting wanted chosen terms = record {
   payloads = child_response wanted chosen terms;
   pair = new_pair Responder setting terms;
 }
 
--- The terms on which a child is made: the peer's SPI is that of the chosen proposal, this end's the next
+-- The terms on which a Child SA is made: the peer's SPI is that of the chosen proposal, this end's the next
 -- that the table gives, and the selectors are narrowed to the policy.
 pub record AreMadeTerms (extended : Bool) (entries : List Entry) (table : Database) (offer : ChildPayloads)
     (chosen : Chosen) (terms : Terms) : Type 0 where
@@ -78,7 +78,7 @@ pub record AreMadeTerms (extended : Bool) (entries : List Entry) (table : Databa
   pub not_spent : ¬ IsSpent table
 
 -- What is made of an offer, by an end that allows extended sequence numbers or doesn't: the answer's
--- payloads, and the responder's pair.
+-- payloads, and the responder's SA pair.
 pub record IsMadeChild (setting : Setting) (extended : Bool) (entries : List Entry) (table : Database)
     (offer : ChildPayloads) (made : Made) : Type 0 where
   pub chosen : Chosen
@@ -86,7 +86,7 @@ pub record IsMadeChild (setting : Setting) (extended : Bool) (entries : List Ent
   pub due : AreMadeTerms extended entries table offer chosen terms
   pub whole : made ≡ made_of setting (Esp extended) chosen terms
 
--- why no child is made, each where those before it don't apply
+-- why no Child SA is made, each where those before it don't apply
 abbrev pub IsChildRefusal : Bool → List Entry → Database → ChildPayloads → Notice → Type 0
 IsChildRefusal extended entries table offer NoProposalChosen = OffersNone extended offer
 IsChildRefusal extended entries table offer TsUnacceptable =
@@ -105,12 +105,12 @@ IsChildResponse setting extended entries table offer (response.Made made) =
 IsChildResponse setting extended entries table offer (response.Refused notice) =
     IsChildRefusal extended entries table offer notice
 
--- the table can take the pair: it has room, and gives the pair's inbound SPI next
+-- the table can take the SA pair: it has room, and gives the pair's inbound SPI next
 pub record CanTake (table : Database) (pair : Pair) : Type 0 where
   pub ready : IsReady table
   pub next : pair.inbound.association.spi ≡ next_spi table
 
--- the table that an answer leaves can take the pair that was made
+-- the table that an answer leaves can take the SA pair that was made
 abbrev pub LeavesRoom : Response → Database → Type 0
 LeavesRoom (response.Made made) table = CanTake table made.pair
 LeavesRoom (response.Refused notice) table = Unit
@@ -126,7 +126,7 @@ pub record TakesProposal (offered answered : List Proposal) : Type 0 where
   pub lone : answered ≡ answer ∷ []
   pub taken : IsTakenFrom offered place answer
 
--- the next SPI is given, and the pair comes for it
+-- the next SPI is given, and the SA pair comes for it
 pub record AddsNext (old : Database) (pair : Pair) (serial : ℕ) (new : Database) : Type 0 where
   pub spi : ℕ
   pub between : Database

@@ -1,5 +1,5 @@
--- What the two ends of a child agree on (RFC 7296 sections 2.9 and 3.3): what the payloads of a request and
--- of its reply say.
+-- What the two ends of a Child SA agree on (RFC 7296 sections 2.9 and 3.3): what the payloads of a request
+-- and of its reply say.
 use Rattle.std.specs.Prelude.{◌≡◌, ◌==◌, ℕ, Bool, List, [], ◌∷◌, Some, length, slice_get}
 use Rattle.std.specs.List.{filter}
 use Rattle.byteorder.specs.Endian.{big_number}

@@ -14,13 +14,13 @@ use std::alloc::Global;
 use suite::Wanted;
 use wire::Payload;
 
-/// The initiator's pair by an answer (RFC 7296, sections 2.7 and 2.9), `None` where the answer is not
+/// The initiator's SA pair by an answer (RFC 7296, sections 2.7 and 2.9), `None` where the answer is not
 /// acceptable. An acceptable one has one SA payload, which [`suite::accept`] accepts by whether extended
 /// sequence numbers were asked for, and one payload of selectors for each side, which are not empty and lie
 /// inside those offered. The pair receives under its own SPI with the responder's key, and sends under the
 /// answer's with the initiator's.
 ///
-/// An error is for want of memory alone, for what the pair holds, and none comes for an answer that is not
+/// The only error is an allocation failure, for what the pair holds, and none comes for an answer that is not
 /// acceptable.
 pub fn accept(
     alloc: Global,

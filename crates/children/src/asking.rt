@@ -10,7 +10,7 @@ use suite::{Wanted, offer};
 /// What an initiator asks for, by [`ask`], and what it takes the answer by ([`accept`](crate::accept)).
 #[derive(Clone, Copy, Debug, PartialEq, Eq)]
 pub struct Asked {
-    /// The SPI of its inbound association, which its table reserved.
+    /// The SPI of its inbound SA, which its table reserved.
     pub spi: u32,
     /// The selector of its own side.
     pub local: Selector,
@@ -20,9 +20,9 @@ pub struct Asked {
     pub extended: bool,
 }
 
-/// What an initiator asks for (RFC 7296, sections 1.2 and 1.3.1): one proposal, of number 1, with the SPI
-/// of its inbound association and with extended sequence numbers before others where they are allowed, and
-/// one selector of each side, its own being TSi. An error is for want of memory alone.
+/// What an initiator asks for (RFC 7296, sections 1.2 and 1.3.1): one proposal, of number 1, with the SPI of
+/// its inbound SA and with extended sequence numbers before others where they are allowed, and one selector
+/// of each side, its own being TSi. The only error is an allocation failure.
 pub fn ask(alloc: Global, asked: &Asked) -> Result<ChildPayloads, AllocError>
     ensures { IfOk result (λ payloads. payloads ≡ child_request asked.now) }
 {

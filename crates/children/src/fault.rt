@@ -1,4 +1,4 @@
-//! The refusals of this crate, each for want of memory alone.
+//! The refusals of this crate, each an allocation failure.
 ghost use Rattle.std.specs.Prelude.{◌≡◌};
 ghost use Rattle.children.specs.Faults.{code_of_memory_fault};
 
@@ -14,10 +14,10 @@ pub enum MemoryFault {
     /// There was no memory for the replay window.
     #[error("E20: no memory for the replay window")]
     Window,
-    /// There was no memory for selectors, narrowed or kept with the pair.
+    /// There was no memory for selectors, narrowed or kept with the SA pair.
     #[error("E24: no memory for the selectors")]
     Narrowing,
-    /// There was no memory for one more pair in the table.
+    /// There was no memory for one more SA pair in the table.
     #[error("E27: no memory for the table")]
     Table,
 }

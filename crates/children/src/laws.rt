@@ -1,6 +1,6 @@
-//! Facts about the definitions, each the contract of a function that does nothing: the two ends' pairs
-//! mirror each other, what a responder answers is acceptable, keeps to its offer and can be sent, and
-//! answers are determined.
+//! Facts about the definitions, each the contract of a function that does nothing: the two ends' SA pairs
+//! mirror each other, what a responder answers is acceptable, keeps to its offer and can be sent, and answers
+//! are determined.
 ghost use Rattle.std.specs.Prelude.{◌≡◌, ◌<◌, ◌≤◌, ◌^◌, ◌∷◌, [], ℕ, Bool, true, List, Some, length};
 ghost use Rattle.std.specs.List.{AllByRecursion};
 ghost use Rattle.base.specs.declared.selector.Selector.{Selector};
@@ -32,17 +32,17 @@ use policy::laws::{answers_can_be_sent, answers_lie_inside, narrowing_is_determi
 use sadb::laws::later_tables_are_determined;
 use suite::laws::{choices_are_determined, ends_agree};
 
-/// The pairs that the two ends have of the child of one request, which offered one proposal, and its reply
-/// mirror each other: what one sends the other receives, under one SPI and one key, and what is local to
-/// one is remote to the other. Does nothing.
+/// The SA pairs that the two ends have of the Child SA of one request, which offered one proposal, and its
+/// reply mirror each other: what one sends the other receives, under one SPI and one key, and what is local
+/// to one is remote to the other. Does nothing.
 pub fn children_mirror()
     ensures { (keys : List (List ℕ)) (request reply : List Payload) (proposal : Proposal) (a b : Pair)
         → only_sa request ≡ Some (proposal ∷ [])
         → IsChild Initiator keys request reply a → IsChild Responder keys request reply b → Mirrors a b }
 {}
 
-/// The pair that a responder makes is its pair of the child of the request and of any reply that has the
-/// payloads which were made; the pair of an accepted answer is the initiator's, where the request has its
+/// The SA pair that a responder makes is its pair of the Child SA of the request and of any reply that has
+/// the payloads which were made; the pair of an accepted answer is the initiator's, where the request has its
 /// offer. Does nothing.
 pub fn pairs_are_children()
     ensures made { (setting : Setting) (extended : Bool) (entries : List Entry) (table : Database)
@@ -71,9 +71,9 @@ pub fn responses_are_acceptable()
 }
 
 /// What is made keeps to its offer and to the policy (RFC 7296, sections 2.7 and 2.9): the selectors lie
-/// inside those offered, and inside one entry that protects; numbers are extended only where that is
-/// allowed; the answer's proposal has number and protocol of one that was offered, and takes its transforms
-/// from it. Does nothing.
+/// inside those offered, and inside one entry that protects; ESN is used only where that is allowed; the
+/// answer's proposal has number and protocol of one that was offered, and takes its transforms from it. Does
+/// nothing.
 pub fn responses_keep_to_their_offers()
     ensures offer { (setting : Setting) (extended : Bool) (entries : List Entry) (table : Database)
         (offer : ChildPayloads) (made : Made)
@@ -96,15 +96,15 @@ pub fn responses_keep_to_their_offers()
     answers_lie_inside();
 }
 
-/// An accepted pair keeps to what was asked (RFC 7296, sections 2.7 and 2.9): it receives under the SPI
-/// that was given, its selectors lie inside those asked for, and its numbers are extended only where that
-/// was allowed. Does nothing.
+/// An accepted SA pair keeps to what was asked (RFC 7296, sections 2.7 and 2.9): it receives under the SPI
+/// that was given, its selectors lie inside those asked for, and ESN is used only where that was allowed.
+/// Does nothing.
 pub fn what_is_accepted_was_asked()
     ensures { (setting : Setting) (asked : Asked) (answer : List Payload) (pair : Pair)
         → IsAcceptedChild setting asked answer pair → KeepsToRequest asked pair }
 {}
 
-/// A pair has at most 16 selectors on either side, as the payloads that it is made of: one that is made,
+/// An SA pair has at most 16 selectors on either side, as the payloads that it is made of: one that is made,
 /// where the offer has no more, and one that is accepted. Does nothing.
 pub fn pairs_have_few_selectors()
     ensures made { (setting : Setting) (extended : Bool) (entries : List Entry) (table : Database)
@@ -147,7 +147,7 @@ pub fn payloads_fit()
 }
 
 /// An answer is acceptable or it isn't. What is answered goes by what the table holds, whatever room there
-/// is, and so do the table and the serial of a pair after [`install`](crate::install). Does nothing.
+/// is, and so do the table and the serial of an SA pair after [`install`](crate::install). Does nothing.
 pub fn children_are_determined()
     ensures acceptable { (setting : Setting) (asked : Asked) (answer : List Payload) (pair : Pair)
         → IsAcceptedChild setting asked answer pair → ¬ IsUnacceptable asked answer }

@@ -1,6 +1,5 @@
-//! The child of an exchange (RFC 7296, sections 1.2, 1.3.1, 2.7, 2.9 and 2.17): the pair of ESP
-//! associations that IKE_AUTH or CREATE_CHILD_SA makes, at both ends. No IKE association, request number,
-//! timer or identity is known here.
+//! The Child SA of an exchange (RFC 7296, sections 1.2, 1.3.1, 2.7, 2.9 and 2.17): the pair of ESP SAs that
+//! IKE_AUTH or CREATE_CHILD_SA makes, at both ends. No IKE SA, Message ID, timer or identity is known here.
 //!
 //! An initiator sends the three payloads of [`ask`], with an SPI that its table reserved, and takes the
 //! answer by [`accept`]. A responder makes the answer and its own pair by [`respond`], which changes the

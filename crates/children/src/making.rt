@@ -1,4 +1,4 @@
-//! The pair of associations, made of what the two ends agree on.
+//! The pair of SAs, made of what the two ends agree on.
 ghost use Rattle.std.specs.Prelude.{◌≡◌, ◌≤◌, IfErr, IfOk, length};
 ghost use Rattle.byteorder.specs.Endian.{big_number};
 ghost use Rattle.replay.specs.Window.{IsBlockCount};
@@ -26,7 +26,7 @@ pub struct AgreedTerms<'a> {
     pub ts_r: &'a [Selector],
 }
 
-/// The pair of the end of this role.
+/// The SA pair of the end of this role.
 pub fn make_pair(
     alloc: Global,
     role: Role,

@@ -1,4 +1,4 @@
-//! What a responder answers, and the pair that it has of the child.
+//! What a responder answers, and the SA pair that it has of the Child SA.
 ghost use Rattle.std.specs.Prelude.{◌≡◌, ◌≢◌, IfErr, IfOk, IsOk};
 ghost use Rattle.replay.specs.Window.{IsBlockCount};
 ghost use Rattle.sadb.specs.Database.{IsAsBefore, IsReady};
@@ -21,9 +21,9 @@ use wire::Proposal;
 /// The answer to an offer.
 #[derive(Drop)]
 pub enum Response {
-    /// A child is made.
+    /// A Child SA is made.
     Made(Made),
-    /// None is made, and the notice says why.
+    /// None is made, and the notification says why.
     Refused(Notice),
 }
 
@@ -32,20 +32,20 @@ pub enum Response {
 pub struct Made {
     /// What the answer says.
     pub payloads: ChildPayloads,
-    /// The responder's pair, to be given to [`install`].
+    /// The responder's SA pair, to be given to [`install`].
     pub pair: Pair,
 }
 
-/// Answers an offer (RFC 7296, sections 1.3, 2.7 and 2.9); `extended` tells whether this end allows
-/// extended sequence numbers (RFC 4303, section 2.2.1). Refused, in this order:
-/// [`Notice::NoProposalChosen`] where no proposal is acceptable, [`Notice::TsUnacceptable`] where the
-/// policy protects nothing of the flows that are offered, [`Notice::NoAdditionalSas`] where the table is
-/// full or its SPIs are spent. Otherwise the answer has the chosen proposal's number, the next SPI of the
-/// table and the selectors narrowed to the policy; the pair receives under that SPI with the initiator's
-/// key, and sends under the chosen proposal's with its own.
+/// Answers an offer (RFC 7296, sections 1.3, 2.7 and 2.9); `extended` tells whether this end allows extended
+/// sequence numbers (RFC 4303, section 2.2.1). Refused, in this order: [`Notice::NoProposalChosen`] where no
+/// proposal is acceptable, [`Notice::TsUnacceptable`] where the policy protects nothing of the flows that are
+/// offered, [`Notice::NoAdditionalSas`] where the table is full or its SPIs are spent. Otherwise the answer
+/// has the chosen proposal's number, the next SPI of the table and the selectors narrowed to the policy; the
+/// SA pair receives under that SPI with the initiator's key, and sends under the chosen proposal's with its
+/// own.
 ///
 /// Of the table its room alone changes, also after an error; where a pair is made, it can take it, as
-/// [`install`] wants it. An error is for want of memory alone, for a place in the table only where that
+/// [`install`] wants it. The only error is an allocation failure, for a place in the table only where that
 /// takes more pairs and has no room, and none comes for an offer that is refused for its proposals or its
 /// selectors.
 pub fn respond(
@@ -84,7 +84,7 @@ pub fn respond(
     Ok(Response::Made(made))
 }
 
-// The answer's payloads and the responder's pair, on these SPIs and selectors.
+// The answer's payloads and the responder's SA pair, on these SPIs and selectors.
 fn make(
     alloc: Global,
     setting: &Setting,
@@ -135,7 +135,7 @@ fn answered_proposals(
     lone(alloc, answer(alloc, wanted, chosen, &own.to_be_bytes())?)
 }
 
-/// Adds the pair that was made of an offer, and answers its serial. The caller asks only for a table that
+/// Adds the SA pair that was made of an offer, and answers its serial. The caller asks only for a table that
 /// is ready, with a pair whose inbound SPI is the next that the table gives; so it is after [`respond`].
 /// Takes no memory.
 pub fn install(table: &mut Table, pair: Pair) -> u32

@@ -1,13 +1,13 @@
-//! What a child is made on.
+//! What a Child SA is made on.
 
 use std::fmt;
 
-/// What a child is made on.
+/// What a Child SA is made on.
 #[derive(Clone, Copy)]
 pub struct Setting {
-    /// The serial of the IKE association that makes it.
+    /// The serial of the IKE SA that makes it.
     pub ike: u32,
-    /// The keys of the exchange ([`suite::child_keys`], those of a first child
+    /// The keys of the exchange ([`suite::child_keys`], those of a first Child SA
     /// [`KeyRecord::first_child_keys`](suite::KeyRecord::first_child_keys)): that of what its initiator
     /// sends, then that of what its responder sends (RFC 7296, section 2.17).
     pub keys: [[u8; 32]; 2],

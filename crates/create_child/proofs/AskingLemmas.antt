@@ -1,4 +1,4 @@
--- The SPIs that an association holds from its order on.
+-- The SPIs that an IKE SA holds from its command on.
 use Rattle.std.proofs.Common.{◌≡◌, ◌⊎◌, ◌+◌, ◌||◌, inl, inr, ℕ, Bool, true, false, cond, Some, ap, arith, refl, subst, sym, ◌∙◌}
 use Rattle.std.proofs.lemmas.Bool.Decides.{eqb_tells}
 use Rattle.std.proofs.lemmas.Option.{none-some}
@@ -76,7 +76,7 @@ issued_at old request new number found is there =
       | inr now ↦ inr now
     ]
 
--- a child is awaited by it, or was before
+-- a Child SA is awaited by it, or was before
 awaited_by : (old new : OwnRequests Request) (request : Request) (spi number q : ℕ) → spi_asked request.purpose ≡ Some spi → IssuesNext old request new → AwaitsChild new number q
     → AwaitsChild old number q ⊎ ((number ≡ old.next) × (q ≡ spi))
 awaited_by old new request spi number q asked is awaits =

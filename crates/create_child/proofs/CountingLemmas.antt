@@ -1,4 +1,4 @@
--- What a counted response gives back.
+-- What a matched response gives back.
 use Rattle.std.proofs.Common.{◌≡◌, ◌≢◌, ◌&&◌, ℕ, cond, not, Some, None, ap, subst, sym, inl, inr, ◌∙◌}
 use Rattle.std.proofs.lemmas.Bool.{eq-eqb, ne_eqb}
 use Rattle.std.proofs.lemmas.Option.{none-some}
@@ -60,7 +60,7 @@ same_request a b is = cc
 pub same_spi : (a b : ℕ) → Some a ≡ Some b → a ≡ b
 same_spi a b is = cc
 
--- the association holds the SPI of a request no more that was answered
+-- the IKE SA holds the SPI of a request no more that was answered
 pub given_back : (a : Association) (table : Database) (number : ℕ) (request : Request) (outgoing : OwnRequests Request) (spi : ℕ)
     → ((old new : OwnRequests Request) (request : Request) (counted number spi : ℕ) → CountsAnswer old counted request new → AwaitsChild new number spi → AwaitsChild old number spi)
     → HoldsReserved a table → CountsAnswer a.outgoing number request outgoing → spi_asked request.purpose ≡ Some spi → HoldsSpi (with_outgoing a outgoing) spi → ⊥

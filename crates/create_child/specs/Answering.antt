@@ -1,4 +1,5 @@
--- The answer to a request for a further child, and what comes of it (RFC 7296 sections 1.3.1 and 2.21.3).
+-- The answer to a request for an additional Child SA, and what comes of it (RFC 7296 sections 1.3.1 and
+-- 2.21.3).
 use Rattle.std.specs.Prelude.{◌≡◌, ℕ, Bool, true, false, Option, Some, None, MatchBool}
 use Rattle.base.specs.Octets.{Octets}
 use Rattle.wire.specs.Numbers.{CREATE_CHILD_SA}
@@ -24,28 +25,28 @@ use Rattle.further.specs.Answering.{answer_to_further, further_answer, further_p
 use Rattle.further.specs.Deciding.{is_closing_decision, DecidesFurther}
 use Rattle.further.specs.declared.deciding.Decision.{Decision}
 
--- the table can take the pair, if there is one
+-- the table can take the SA pair, if there is one
 abbrev pub CanInstall : Database → Option Pair → Type 0
 CanInstall table None = Unit {0}
 CanInstall table (Some pair) = CanTake table pair
 
--- a child is added, if there is one, and the association stays as it is
+-- a Child SA is added, if there is one, and the IKE SA stays as it is
 abbrev pub AddsFurther : Option Pair → Database → Option ℕ → Database → Type 0
 AddsFurther None table None new = new ≡ table
 AddsFurther (Some pair) table (Some serial) new = AddsNext table pair serial new
 AddsFurther pair table child new = ⊥
 
--- the association ends, with all its children; or not
+-- the IKE SA ends, with all its Child SAs; or not
 abbrev pub ConcludesFurther : Bool → Option Pair → Association → Database → ℕ → Option ℕ → Association → Database → Type 0
 ConcludesFurther true pair old table moment child new new_table = (child ≡ None) × Closes old table moment new new_table
 ConcludesFurther false pair old table moment child new new_table = (new ≡ old) × AddsFurther pair table child new_table
 
--- The request takes effect: it is answered, the answer is kept, and the child is made, or none, or the
--- association ends.
+-- The request is processed: it is answered, the response is cached, and the Child SA is made, or none, or the
+-- IKE SA ends.
 pub record AnswersFurther (body_of : Keys → Octets → Octets → Octets → Octets) (setup : Setup) (old : Association) (table : Database) (number : ℕ) (plain : Plain) (answer : Answered) (new : Association) (new_table : Database) : Type 0 where
   pub keys : KeyRecord
   pub established : old.phase ≡ phase.Established keys
-  -- whether a request of this end to delete the association waits for its answer
+  -- whether a request of this end to delete the IKE SA waits for its answer
   pub deleting : Bool
   pub told : MatchBool deleting (AwaitsDeletion old.outgoing) (¬ AwaitsDeletion old.outgoing)
   pub decision : Decision
@@ -60,7 +61,7 @@ pub record AnswersFurther (body_of : Keys → Octets → Octets → Octets → O
   pub closed : answer.closed ≡ is_closing_decision decision
   pub concluded : ConcludesFurther (is_closing_decision decision) (further_pair decision) (with_incoming old incoming) between setup.moment answer.child new new_table
 
--- The request takes effect at an established association. Elsewhere nothing is done.
+-- The request is processed at an established IKE SA. Elsewhere nothing is done.
 abbrev pub AnswersWhereEstablished : (Keys → Octets → Octets → Octets → Octets) → Setup → Association → Database → ℕ → Plain → Option Answered → Association → Database → Type 0
 AnswersWhereEstablished body_of setup old table number plain None new new_table = (¬ IsEstablished old.phase) × (new ≡ old) × (new_table ≡ table)
 AnswersWhereEstablished body_of setup old table number plain (Some answer) new new_table = AnswersFurther body_of setup old table number plain answer new new_table

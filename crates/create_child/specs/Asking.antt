@@ -1,4 +1,4 @@
--- A request for a further child (RFC 7296 sections 1.3.1 and 2.17).
+-- A request for an additional Child SA (RFC 7296 sections 1.3.1 and 2.17).
 use Rattle.std.specs.Prelude.{◌≡◌, ℕ}
 use Rattle.base.specs.Octets.{Octets}
 use Rattle.base.specs.declared.selector.Selector.{Selector}
@@ -27,15 +27,15 @@ use Rattle.further.specs.Payloads.{further_payloads}
 use Rattle.association.specs.declared.fault.OrderFault.{OrderFault}
 use Rattle.association.specs.declared.fault.OrderFault.TheVariants.{WrongPhase, Busy, NumbersSpent, TableFull, SpisSpent, TableMemory, Memory}
 
--- the child that is asked for, and the nonce of its request
+-- the Child SA that is asked for, and the nonce of its request
 abbrev pub wanted : Setup → ℕ → Selector → Selector → FurtherChild
 wanted setup spi local remote = record {
   child = record { spi = spi; local = local; remote = remote; extended = setup.config.extended };
   nonce = setup.fresh.nonce;
 }
 
--- The next SPI is reserved for the child, and its request goes out under the next number and waits for its
--- answer. None goes out while one to delete the association waits for its own.
+-- The next SPI is reserved for the Child SA, and its request goes out under the next Message ID and waits for
+-- its answer. None goes out while one to delete the IKE SA waits for its own.
 pub record AsksForFurther (body_of : Keys → Octets → Octets → Octets → Octets) (setup : Setup) (local remote : Selector) (old : Association) (table : Database) (octets : Octets) (new : Association) (new_table : Database) : Type 0 where
   pub keys : KeyRecord
   pub established : old.phase ≡ phase.Established keys
@@ -53,7 +53,7 @@ pub record AsksForFurther (body_of : Keys → Octets → Octets → Octets → O
   pub issued : IssuesNext old.outgoing (new_request octets (CreateChild (wanted setup spi local remote)) setup.moment) outgoing
   pub content : new ≡ with_outgoing old outgoing
 
--- a request may go out under the association
+-- a request may go out under the IKE SA
 pub record MayAsk (a : Association) : Type 0 where
   pub established : IsEstablished a.phase
   pub not_deleting : ¬ AwaitsDeletion a.outgoing

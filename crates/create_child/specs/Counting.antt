@@ -1,5 +1,5 @@
--- The response to a request for a further child, and what comes of it (RFC 7296 sections 1.3.1, 2.17 and
--- 2.21.3).
+-- The response to a request for an additional Child SA, and what comes of it (RFC 7296 sections 1.3.1, 2.17
+-- and 2.21.3).
 use Rattle.std.specs.Prelude.{◌≡◌, ℕ, Bool, true, false, Option, Some, None}
 use Rattle.std.specs.FinMap as map
 use Rattle.suite.specs.declared.key_record.KeyRecord.{KeyRecord}
@@ -25,25 +25,26 @@ use Rattle.further.specs.declared.concluding.Concluded.{Concluded}
 use Rattle.further.specs.declared.concluding.Conclusion.{Conclusion}
 use Rattle.further.specs.declared.concluding.Conclusion.TheVariants as conclusion
 
--- the request of this number waits for its answer, and asked for a further child
+-- the request with this Message ID waits for its answer, and asked for an additional Child SA
 pub record AsksAt (requests : OwnRequests Request) (number : ℕ) : Type 0 where
   pub request : Request
   pub outstanding : map.get requests.outstanding number ≡ Some request
   pub further : FurtherChild
   pub asked : request.purpose ≡ CreateChild further
 
--- and does so at an established association
+-- and does so at an established IKE SA
 pub record AwaitsFurther (a : Association) (number : ℕ) : Type 0 where
   pub established : IsEstablished a.phase
   pub asked : AsksAt a.outgoing number
 
--- a child that is made has the SPI that was reserved for it
+-- a Child SA that is made has the SPI that was reserved for it
 abbrev pub HasItsSpi : ℕ → Conclusion → Type 0
 HasItsSpi spi conclusion.Closes = Unit {0}
 HasItsSpi spi (conclusion.Made pair) = pair.inbound.association.spi ≡ spi
 HasItsSpi spi conclusion.NoChild = Unit {0}
 
--- what the response makes of it, under the association's keys; only private contracts cite this, the one before and the next
+-- what the response makes of it, under the IKE SA's keys; only private contracts cite this, the one before
+-- and the next
 pub record ConcludesAt (setup : Setup) (a : Association) (number : ℕ) (plain : Plain) (concluded : Concluded) : Type 0 where
   pub keys : KeyRecord
   pub established : a.phase ≡ phase.Established keys
@@ -61,21 +62,21 @@ is_closing_conclusion conclusion.Closes = true
 is_closing_conclusion (conclusion.Made pair) = false
 is_closing_conclusion conclusion.NoChild = false
 
--- The association ends, and the child's SPI is given up with those that it holds.
+-- The IKE SA ends, and the Child SA's SPI is given up with those that it holds.
 pub record EndsWithout (spi : ℕ) (old : Association) (table : Database) (moment : ℕ) (child : Option ℕ) (new : Association) (new_table : Database) : Type 0 where
   pub none : child ≡ None
   pub between : Database
   pub released : Releases table spi between
   pub over : Closes old between moment new new_table
 
--- The child is made, under its SPI.
+-- The Child SA is made, under its SPI.
 pub record AddsUnder (spi : ℕ) (pair : Pair) (old : Association) (table : Database) (child : Option ℕ) (new : Association) (new_table : Database) : Type 0 where
   pub serial : ℕ
   pub told : child ≡ Some serial
   pub installed : Installs table spi pair serial new_table
   pub same : new ≡ old
 
--- No child is made, and its SPI is given up.
+-- No Child SA is made, and its SPI is given up.
 pub record GoesOnWithout (spi : ℕ) (old : Association) (table : Database) (child : Option ℕ) (new : Association) (new_table : Database) : Type 0 where
   pub none : child ≡ None
   pub released : Releases table spi new_table
@@ -86,7 +87,7 @@ EndsFurther conclusion.Closes spi old table moment child new new_table = EndsWit
 EndsFurther (conclusion.Made pair) spi old table moment child new new_table = AddsUnder spi pair old table child new new_table
 EndsFurther conclusion.NoChild spi old table moment child new new_table = GoesOnWithout spi old table child new new_table
 
--- The response is counted, and concluded on.
+-- The response is matched, and concluded on.
 pub record CountsFurther (setup : Setup) (old : Association) (table : Database) (number : ℕ) (plain : Plain) (ended : Ended) (new : Association) (new_table : Database) : Type 0 where
   pub keys : KeyRecord
   pub established : old.phase ≡ phase.Established keys
@@ -101,7 +102,7 @@ pub record CountsFurther (setup : Setup) (old : Association) (table : Database) 
   pub declined : IsDeclinedBy plain ended.child ended.declined
   pub ends : EndsFurther conclusion further.child.spi (with_outgoing old outgoing) table setup.moment ended.child new new_table
 
--- It is counted where it answers such a request; else nothing is done.
+-- It is matched where it answers such a request; else nothing is done.
 abbrev pub CountsWhereAwaited : Setup → Association → Database → ℕ → Plain → Option Ended → Association → Database → Type 0
 CountsWhereAwaited setup old table number plain None new new_table = (¬ AwaitsFurther old number) × (new ≡ old) × (new_table ≡ table)
 CountsWhereAwaited setup old table number plain (Some ended) new new_table = CountsFurther setup old table number plain ended new new_table

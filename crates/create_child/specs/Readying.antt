@@ -12,7 +12,7 @@ use Rattle.association.specs.declared.fault.OrderFault.TheVariants as order
 use Rattle.association.specs.declared.fault.OrderFault.{OrderFault}
 use Rattle.association.specs.declared.fault.OrderFault.TheVariants.{Busy, NumbersSpent, TableFull, SpisSpent, TableMemory}
 
--- why an established association takes no request
+-- why an established IKE SA takes no request
 abbrev pub RefusesRoom : Association → OrderFault → Type 0
 RefusesRoom a Busy = RefusesOrder a order.Busy
 RefusesRoom a NumbersSpent = RefusesOrder a order.NumbersSpent
@@ -25,7 +25,7 @@ GivesNoSpi table SpisSpent = (¬ IsFull table) × IsSpent table
 GivesNoSpi table TableMemory = (¬ IsFull table) × (¬ IsSpent table) × (table.room ≡ 0)
 GivesNoSpi table fault = ⊥
 
--- what is kept of a child that is asked for, under the SPI that the table gave
+-- what is kept of a Child SA that is asked for, under the SPI that the table gave
 abbrev pub kept_child : ℕ → Asked → Octets → FurtherChild
 kept_child spi asked nonce = record { child = record { spi = spi; local = asked.local; remote = asked.remote; extended = asked.extended }; nonce = nonce }
 

@@ -1,4 +1,4 @@
-//! The answer to a request for a further child.
+//! The answer to a request for an additional Child SA.
 ghost use Rattle.std.specs.Prelude.{◌≡◌, IfOk, IfErr};
 ghost use Rattle.wire.specs.Numbers.{CREATE_CHILD_SA};
 ghost use Rattle.exchange.specs.Headers.{keys_of};
@@ -26,17 +26,17 @@ use suite::{KeyRecord, Sealer};
 use wire::Message;
 use wire::numbers::CREATE_CHILD_SA;
 
-/// Answers a request of CREATE_CHILD_SA at an established association (RFC 7296, section 1.3.1), by the
-/// payloads that it opened to and what [`further::decide`] makes of them.
+/// Answers a request of CREATE_CHILD_SA at an established IKE SA (RFC 7296, section 1.3.1), by the payloads
+/// that it opened to and what [`further::decide`] makes of them.
 ///
-/// Where the payloads are not in the grammar, or the request is incomplete, the answer is INVALID_SYNTAX
-/// and the association is closed (section 2.21.3). Where no child is made for another reason the answer is
-/// that notice alone. Otherwise the child is made, and the answer has the step's fresh nonce. It is `None`,
-/// and nothing is changed, where the association is not established.
+/// Where the payloads are not in the grammar, or the request is incomplete, the answer is INVALID_SYNTAX and
+/// the IKE SA is closed (section 2.21.3). Where no Child SA is made for another reason the answer is that
+/// Notify payload alone. Otherwise the child is made, and the answer has the step's fresh nonce. It is
+/// `None`, and nothing is changed, where the IKE SA is not established.
 ///
-/// The caller asks only where the request is fresh and the SPIs that the association holds are reserved in
-/// the table. An error is for want of memory alone: association and table are as they were then, but for
-/// the table's room.
+/// The caller asks only where the request is fresh and the SPIs that the IKE SA holds are reserved in the
+/// table. The only error is an allocation failure: IKE SA and table are as they were then, but for the
+/// table's spare capacity.
 pub fn answer<C: Sealer>(
     alloc: Global,
     setup: &Setup<'_, C>,
@@ -112,7 +112,7 @@ fn make_reply<C: Sealer>(
     sealed_message(alloc, setup.caller, role, keys, &message, &setup.fresh.seal)
 }
 
-// The association is closed, or the child is added, if there is one.
+// The IKE SA is closed, or the Child SA is added, if there is one.
 fn conclude(
     association: &mut Association,
     table: &mut Table,

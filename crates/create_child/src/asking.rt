@@ -1,4 +1,4 @@
-//! A request of this end for a further child.
+//! A request of this end for an additional Child SA.
 ghost use Rattle.std.specs.Prelude.{◌≡◌, ◌+◌, IfOk, IfErr};
 ghost use Rattle.wire.specs.Numbers.{CREATE_CHILD_SA};
 ghost use Rattle.exchange.specs.Headers.{keys_of};
@@ -29,15 +29,15 @@ use suite::{KeyRecord, Sealer};
 use wire::Message;
 use wire::numbers::CREATE_CHILD_SA;
 
-/// Asks for a further child with these selectors of this end's side and of the peer's (RFC 7296, section
-/// 1.3.1), with extended sequence numbers where the configuration allows them, and the step's fresh nonce.
-/// The request waits for its answer from then on, and holds the SPI that the table reserved for the child.
+/// Asks for an additional Child SA with these selectors of this end's side and of the peer's (RFC 7296,
+/// section 1.3.1), with ESN where the configuration allows it, and the step's fresh nonce. The request waits
+/// for its answer from then on, and holds the SPI that the table reserved for the child.
 ///
-/// Refused, in this order: [`OrderFault::WrongPhase`] where the association is not established,
-/// [`OrderFault::Busy`] where a request to delete it waits for its answer or the peer takes no more
-/// requests at once, [`OrderFault::NumbersSpent`] where no number is left, [`OrderFault::TableFull`],
-/// [`OrderFault::SpisSpent`] and [`OrderFault::TableMemory`] where the table gives no SPI,
-/// [`OrderFault::Memory`]. What is refused changes nothing but the table's room.
+/// Refused, in this order: [`OrderFault::WrongPhase`] where the IKE SA is not established,
+/// [`OrderFault::Busy`] where a request to delete it waits for its answer or the peer takes no more requests
+/// at once, [`OrderFault::NumbersSpent`] where no Message ID is left. Then come [`OrderFault::TableFull`],
+/// [`OrderFault::SpisSpent`] and [`OrderFault::TableMemory`] where the table gives no SPI, and
+/// [`OrderFault::Memory`]. What is refused changes nothing but the table's spare capacity.
 ///
 /// The caller gives selectors that a message can carry.
 pub fn ask<C: Sealer>(
@@ -80,7 +80,7 @@ pub fn ask<C: Sealer>(
     Ok(Issued { number, octets })
 }
 
-// The number that the next request is to have.
+// The Message ID that the next request is to have.
 fn may_ask(association: &Association) -> Result<u32, OrderFault>
     requires { IsEstablished association.now.phase }
     ensures number { IfOk result (λ number. number ≡ association.now.outgoing.next) }
@@ -99,7 +99,7 @@ fn may_ask(association: &Association) -> Result<u32, OrderFault>
     }
 }
 
-// Makes room for the child in the table, and tells its SPI.
+// Makes room for the Child SA in the table, and tells its SPI.
 #[tactic(auto, using(crate::proofs::TableLemmas::withheld))]
 fn prepare(table: &mut Table) -> Result<u32, OrderFault>
     ensures next { IfOk result (λ spi. spi ≡ table.old.start + table.old.given) }
@@ -146,7 +146,7 @@ fn make_request<C: Sealer>(
     sealed_message(alloc, setup.caller, role, keys, &message, &setup.fresh.seal)
 }
 
-// Reserves the child's SPI, and one more request waits for its answer, under the next number.
+// Reserves the Child SA's SPI, and one more request waits for its answer, under the next Message ID.
 fn issue(
     association: &mut Association,
     table: &mut Table,
@@ -172,7 +172,7 @@ fn issue(
                 .issue(new_request(octets, purpose, moment));
             Ok(())
         }
-        // The number may be issued, so the fault is want of memory.
+        // The Message ID may be issued, so the fault is an allocation failure.
         Err(_) => Err(AllocError),
     }
 }
@@ -184,7 +184,7 @@ fn reserve(table: &mut Table) -> Spi
     table.reserve().unwrap()
 }
 
-// What is kept of the child, under this SPI.
+// What is kept of the Child SA, under this SPI.
 fn further_child(spi: Spi, asked: &Asked, nonce: &[u8; 32]) -> FurtherChild
     requires local { IsSendableSelector asked.now.local }
     requires remote { IsSendableSelector asked.now.remote }

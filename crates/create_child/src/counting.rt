@@ -1,4 +1,4 @@
-//! The response to a request of this end for a further child.
+//! The response to a request of this end for an additional Child SA.
 ghost use Rattle.std.specs.Prelude.{◌≡◌, ◌≢◌, IfOk, IfErr};
 ghost use Rattle.sadb.specs.Database.{IsReserved};
 ghost use Rattle.association.specs.Closing.{HoldsReserved, HoldsSpi};
@@ -15,14 +15,15 @@ use sadb::{Spi, Table};
 use setup::Setup;
 use std::alloc::Global;
 
-/// Counts the response to a request for a further child (RFC 7296, section 1.3.1), by the payloads that it opened to and what
-/// [`further::conclude_response`] makes of them: the association is closed, the child is made under the SPI that was reserved for it, or no
-/// child is made and that SPI is given up. Where no child is made, the first error notice of the answer is told ([`Ended::declined`]). It is
-/// `None`, and nothing is changed, where the association is not established, or no request of this number that asked for a child is
-/// outstanding.
+/// Matches the response to a request for an additional Child SA (RFC 7296, section 1.3.1), by the payloads
+/// that it opened to and what [`further::conclude_response`] makes of them. The IKE SA is closed, the child
+/// is made under the SPI that was reserved for it, or no child is made and that SPI is given up. Where no
+/// child is made, the first error notification of the answer is told ([`Ended::declined`]). It is `None`, and
+/// nothing is changed, where the IKE SA is not established, or no request with this Message ID that asked for
+/// a child is outstanding.
 ///
-/// The caller asks only where the SPIs that the association holds are reserved in the table. An error is
-/// for want of memory alone, for the message or the pair: its place in the table stands since its SPI was
+/// The caller asks only where the SPIs that the IKE SA holds are reserved in the table. The only error is an
+/// allocation failure, for the message or the SA pair: its place in the table stands since its SPI was
 /// reserved. It changes nothing.
 pub fn count<C>(
     alloc: Global,
@@ -57,7 +58,7 @@ pub fn count<C>(
     }))
 }
 
-// What the response makes of the request of its number, where that asked for a child.
+// What the response makes of the request with its Message ID, where that asked for a Child SA.
 fn conclusion_at<C>(
     alloc: Global,
     setup: &Setup<'_, C>,
@@ -100,7 +101,7 @@ fn is_closing(conclusion: &Conclusion) -> bool
     }
 }
 
-// The child's SPI, which the association holds no more, goes to its pair or back to the table.
+// The Child SA's SPI, which the IKE SA holds no more, goes to its SA pair or back to the table.
 fn conclude(
     association: &mut Association,
     table: &mut Table,

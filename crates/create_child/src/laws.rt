@@ -14,9 +14,9 @@ ghost use Rattle.create_child.specs.Asking.{AsksForFurther};
 
 use association::laws::children_are_asked_for;
 
-/// An association that asks for a further child holds the next SPI of the table from then on, beside those
-/// that it held; each stays reserved, for one child alone, and so does every SPI that another association
-/// holds. Does nothing.
+/// An IKE SA that asks for an additional Child SA holds the next SPI of the table from then on, beside those
+/// that it held. Each stays reserved, for one child alone, and so does every SPI that another IKE SA holds.
+/// Does nothing.
 pub fn a_further_spi_is_held()
     ensures own { (body_of : Keys → Octets → Octets → Octets → Octets) (setup : Setup)
         (local remote : Selector) (old : Association)
@@ -41,7 +41,7 @@ pub fn a_further_spi_is_held()
         → IsReserved new_table spi }
 {}
 
-/// As the answer to a request for a further child is counted, the association gives the child's SPI back:
+/// As the answer to a request for an additional Child SA is matched, the IKE SA gives the child's SPI back:
 /// it holds it no more. Does nothing.
 pub fn what_is_answered_is_given_back()
     ensures { (a : Association) (table : Database) (number : ℕ) (request : Request)

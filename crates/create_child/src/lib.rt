@@ -1,12 +1,12 @@
-//! The exchange CREATE_CHILD_SA (RFC 7296, section 1.3.1) at one association that is established: asked,
-//! answered and counted. This end asks for a further child, a request of the peer is answered by one or
-//! refused, and the response to one of this end is counted.
+//! The exchange CREATE_CHILD_SA (RFC 7296, section 1.3.1) at one IKE SA that is established: asked, answered
+//! and matched. This end asks for an additional Child SA, a request of the peer is answered by one or
+//! refused, and the response to one of this end is matched.
 //!
-//! Which association a message is for, whether its number is fresh and what it opens to, [`association`]
+//! Which IKE SA a message is for, whether its Message ID is fresh and what it opens to, [`association`]
 //! tells; what the payloads say, [`further`]. Each call here makes all that it needs before it changes
-//! anything, and tells where the association is not established. The SPI of a child that was asked for is
-//! kept with the request ([`association::Purpose::CreateChild`]), and goes back to the table with the
-//! answer, or when the association ends.
+//! anything, and tells where the IKE SA is not established. The SPI of a child that was asked for is kept
+//! with the request ([`association::Purpose::CreateChild`]), and goes back to the table with the answer, or
+//! when the IKE SA ends.
 //!
 //! ```text
 //! send(ask(alloc, &step, &mut association, &mut table, &local, &remote)?.octets);

@@ -1,4 +1,4 @@
--- The pairs that are left where some are taken out.
+-- The SA pairs that are left where some are taken out.
 use Rattle.std.proofs.Common.{◌≡◌, ◌≢◌, ◌==◌, ◌↔◌, ◌<◌, ◌≤◌, ◌∷◌, [], ◌||◌, ℕ, List, Bool, true, false, Some, None, IsTrue, arith, sym, ap, ◌∙◌, refl, inl, inr, subst, suc, zero}
 use Rattle.std.specs.Prelude.{nat_eq, Contains}
 use Rattle.std.specs.FinMap as map
@@ -83,7 +83,7 @@ left_over m ns serial pair = (
   ],
 )
 
--- ---- whether a pair that is looked at sends still
+-- ---- whether an SA pair that is looked at sends still
 
 pub gone_sends : (m : PairMap) (ns : List ℕ) (ike spi serial : ℕ) → stands serial ns ≡ true → ¬ SendsUnder (without m ns) ike spi serial
 gone_sends m ns ike spi serial gone s = both_ways _ (left_told m ns serial s.pair s.there).1 gone
@@ -101,7 +101,7 @@ sends_by m ns ike spi serial under pair here missing belongs is =
           eq-eqb under spi (is ∙ ap (λ (p : Pair). p.outbound.association.spi) one ∙ s.under),
     )
 
--- ---- a walk over the pairs of an association
+-- ---- a walk over the SA pairs of an IKE SA
 
 module _ (m : PairMap) (ns : List ℕ) (ike spi passed : ℕ) where
   abbrev NoneUpTo : ℕ → Type 0

@@ -1,4 +1,4 @@
--- A message within the limit deletes no more pairs than it may name, and what is made of it is sound.
+-- A message within the limit deletes no more SA pairs than it may name, and what is made of it is sound.
 use Rattle.std.proofs.Common.{◌≡◌, ◌≤◌, ◌∷◌, [], ℕ, List, Bool, true, false, Option, Some, None, IfOk, Ok, Err, Result, length, arith, sym, ap, ◌∙◌, refl, subst, if◌then◌else◌, nat_lt}
 use Rattle.std.proofs.lemmas.Bool.{ltb-false}
 use Rattle.std.proofs.lemmas.List.{length-append}

@@ -14,7 +14,7 @@ use Rattle.deletions.specs.declared.deciding.Verdict.{Verdict}
 use Rattle.deletions.specs.declared.deciding.Verdict.TheVariants.{Deletes}
 use Rattle.deletions.proofs.SenderLemmas.{deleted_live, deleted_not}
 
--- by the only pair that may go
+-- by the only SA pair that may go
 abbrev deleting : Option (ℕ × Pair) → Verdict
 deleting o = Deletes (record { serials = serials_of (cons_option o []); inbound_spis = inbound_spis_of (cons_option o []) })
 

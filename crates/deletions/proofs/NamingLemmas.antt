@@ -19,13 +19,13 @@ use Rattle.deletions.specs.declared.naming.DeletedPairs.{DeletedPairs}
 use Rattle.deletions.proofs.LeftLemmas.{left_told, live_yet, sends_first, stands, stands_then, was_there}
 use Rattle.deletions.proofs.SenderLemmas.{deleted_live, deleted_not, deleted_told, under}
 
--- a pair is there under its serial, Live, of the IKE association, and sends under one of the SPIs
+-- an SA pair is there under its serial, Live, of the IKE SA, and sends under one of the SPIs
 record Goes (pairs : PairMap) (ike : ℕ) (spis : List ℕ) (e : ℕ × Pair) : Type 0 where
   there : pair_at pairs e.0 ≡ Some e.1
   live : IsLive pairs e.0
   sends : Any (λ spi. SendsUnder pairs ike spi e.0) spis
 
--- ---- the pair that was looked at
+-- ---- the SA pair that was looked at
 
 module _ (m : PairMap) (ns : List ℕ) (ike spi serial : ℕ) (pair : Pair) where
   there_left : IsSenderUnder (without m ns) ike spi serial → Some pair ≡ pair_at m serial → pair_at (without m ns) serial ≡ Some pair
@@ -189,7 +189,7 @@ module _ (ike : ℕ) where
   inbound-append : (xs ys : List (ℕ × Pair)) → inbound_spis_of (xs ++ ys) ≡ inbound_spis_of xs ++ inbound_spis_of ys
   inbound-append xs ys = map-append (λ (e : ℕ × Pair). e.1.inbound.association.spi) xs ys
 
-  -- a pair that goes is left
+  -- an SA pair that goes is left
   live_left : (pairs : PairMap) (ns : List ℕ) (spi serial : ℕ) → IsSenderUnder (without pairs ns) ike spi serial → IsLive pairs serial
       → (pair : Pair) × (pair_at (without pairs ns) serial ≡ Some pair) × (deleted_for (without pairs ns) ike spi ≡ Some (serial, pair))
   live_left pairs ns spi serial sends live =
@@ -214,7 +214,7 @@ module _ (ike : ℕ) where
       let found = live_left pairs (gone pairs spis) spi serial sends live in
       ap serials_of (deleted-push pairs spis spi (Some (serial, found.0)) found.2) ∙ serials-append (deleted_pairs pairs ike spis) ((serial, found.0) ∷ [])
 
-  -- the record of the serials and SPIs of some pairs
+  -- the record of the serials and SPIs of some SA pairs
   abbrev told_of : List (ℕ × Pair) → DeletedPairs
   told_of es = record { serials = serials_of es; inbound_spis = inbound_spis_of es }
 

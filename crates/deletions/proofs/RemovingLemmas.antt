@@ -1,4 +1,4 @@
--- Pairs taken out one after the other, and what is left.
+-- SA pairs taken out one after the other, and what is left.
 use Rattle.std.proofs.Common.{◌≡◌, ◌≢◌, ◌<◌, ◌++◌, ◌∷◌, [], ◌↔◌, ℕ, List, Option, Some, None, length, cond, get_or, arith, sym, ap, ◌∙◌, refl, inl, inr, subst}
 use Rattle.std.specs.Prelude.{All, Bool, Contains, IsSome, take}
 use Rattle.std.specs.Cmp.{nat_cmp_total, unsigned_tied}

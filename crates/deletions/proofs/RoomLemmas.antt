@@ -1,4 +1,4 @@
--- A table has as much room, and no more pairs, once some were taken out.
+-- A table has as much spare capacity, and no more SA pairs, once some were taken out.
 use Rattle.std.proofs.Common.{◌≡◌, ◌≤◌, ◌-◌, ◌∷◌, [], ℕ, List, Bool, true, false, Option, Some, None, cond, arith, sym, ap, ◌∙◌, refl, inl, inr, subst}
 use Rattle.std.specs.Cmp.{nat_cmp_total}
 use Rattle.std.specs.FinMap as map

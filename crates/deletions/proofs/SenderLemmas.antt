@@ -1,4 +1,4 @@
--- The pair that goes for an SPI, by the relations of the association table.
+-- The SA pair that goes for an SPI, by the relations of the table of SA pairs.
 use Rattle.std.proofs.Common.{◌≡◌, ℕ, true, Option, Some, None, option_and_then, sym, ap, ◌∙◌, refl, inl, inr, subst}
 use Rattle.std.specs.Prelude.{◌⊎◌}
 use Rattle.std.proofs.lemmas.Bool.{and_from, and_parts, both_ways, cases_order, eq-eqb, eqb-true}
@@ -74,7 +74,7 @@ deleted_none pairs ike spi none = elim (look pairs ike spi) [
   | inr (e, found) ↦ absurd (none e.0 found.sends.sends)
 ]
 
--- a pair under its serial
+-- an SA pair under its serial
 abbrev pub under : ℕ → Pair → ℕ × Pair
 under serial pair = (serial, pair)
 
@@ -88,7 +88,7 @@ deleted_as pairs ike spi serial pair sends there = elim (look pairs ike spi) [
       ap deleted_if found.is ∙ ap (λ (p : Pair). if_live p.state (under e.0 p)) held ∙ ap (λ (n : ℕ). if_live pair.state (under n pair)) number)
 ]
 
--- the pair that goes is there, Live, and the first that sends under the SPI
+-- the SA pair that goes is there, Live, and the first that sends under the SPI
 pub record IsFirstLive (pairs : PairMap) (ike spi : ℕ) (e : ℕ × Pair) : Type 0 where
   pub sends : IsSenderUnder pairs ike spi e.0
   pub there : pair_at pairs e.0 ≡ Some e.1

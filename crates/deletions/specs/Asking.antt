@@ -7,15 +7,15 @@ use Rattle.wire.specs.declared.payload.Payload.{Payload}
 use Rattle.wire.specs.declared.payload.Payload.TheVariants.{Delete}
 use Rattle.exchange.specs.Sealed.{PAYLOADS_LIMIT}
 
--- associations of ESP are named by the SPIs under which their sender receives (section 3.11)
+-- ESP SAs are named by the SPIs under which their sender receives (section 3.11)
 abbrev pub esp_deletion : List ℕ → List Payload
 esp_deletion spis = Delete ESP_PROTOCOL spis ∷ []
 
--- a child goes by its SPI, and takes the SPI of the other direction with it (section 1.4.1)
+-- a Child SA goes by its SPI, and takes the SPI of the other direction with it (section 1.4.1)
 abbrev pub child_deletion : ℕ → List Payload
 child_deletion spi = esp_deletion (spi ∷ [])
 
--- the IKE association has no SPI to be named: it is the one under which the message comes (section 3.11)
+-- the IKE SA has no SPI to be named: it is the one under which the message comes (section 3.11)
 abbrev pub association_deletion : List Payload
 association_deletion = Delete IKE_PROTOCOL [] ∷ []
 

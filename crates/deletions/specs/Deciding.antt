@@ -13,8 +13,8 @@ use Rattle.deletions.specs.declared.deciding.Verdict.{Verdict}
 use Rattle.deletions.specs.declared.deciding.Verdict.TheVariants as verdict
 use Rattle.deletions.specs.declared.naming.DeletedPairs.{DeletedPairs}
 
--- what its deletions ask for: with the IKE association all its children end (section 1.4.1), so those named
--- beside it are not looked at
+-- what its deletions ask for: with the IKE SA all its Child SAs end (section 1.4.1), so those named beside it
+-- are not looked at
 abbrev pub deletions_in : PairMap → ℕ → List Payload → Verdict
 deletions_in pairs ike payloads = if deletes_association payloads then verdict.Closes else verdict.Deletes (deleted_by pairs ike (esp_spis payloads))
 
@@ -42,15 +42,15 @@ pub record IsVerdictOn (pairs : PairMap) (ike : ℕ) (plain : Plain) (made : Ver
   pub read : IsRead plain payloads
   pub due : made ≡ verdict_on pairs ike payloads
 
--- the IKE association ends: INVALID_SYNTAX ends it too (section 2.21.3)
+-- the IKE SA ends: INVALID_SYNTAX ends it too (section 2.21.3)
 abbrev pub is_closing_verdict : Verdict → Bool
 is_closing_verdict verdict.BadSyntax = true
 is_closing_verdict (verdict.Unsupported kind) = false
 is_closing_verdict verdict.Closes = true
 is_closing_verdict (verdict.Deletes deleted) = false
 
--- Live pairs of this IKE association, none twice, each with the SPI under which it receives, and no more
--- than a message may name
+-- Live SA pairs of this IKE SA, none twice, each with the SPI under which it receives, and no more than a
+-- message may name
 pub record AreLivePairs (pairs : PairMap) (ike : ℕ) (deleted : DeletedPairs) : Type 0 where
   pub live : All (IsLive pairs) deleted.serials
   pub its_own : All (BelongsTo pairs ike) deleted.serials

@@ -13,13 +13,13 @@ use exchange::laws::notices_fit;
 use std::alloc::{AllocError, Global};
 use wire::Payload;
 
-/// The payloads of the answer to a request of INFORMATIONAL (RFC 7296, sections 1.4.1, 2.5 and 2.21.3): the
-/// notice INVALID_SYNTAX, the notice UNSUPPORTED_CRITICAL_PAYLOAD with the payload's type, or one Delete of
-/// ESP that names the SPIs under which this end received by the pairs that go. There are none where the
-/// association is closed or no pair goes.
+/// The payloads of the answer to a request of INFORMATIONAL (RFC 7296, sections 1.4.1, 2.5 and 2.21.3). They
+/// are the Notify payload INVALID_SYNTAX, the Notify payload UNSUPPORTED_CRITICAL_PAYLOAD with the payload's
+/// type, or one Delete of ESP that names the SPIs under which this end received by the SA pairs that go.
+/// There are none where the IKE SA is closed or no pair goes.
 ///
-/// Where at most 512 pairs go, as after [`decide`](crate::decide), they fit a message that is sealed. An
-/// error is for want of memory alone.
+/// Where at most 512 pairs go, as after [`decide`](crate::decide), they fit a message that is sealed. The
+/// only error is an allocation failure.
 pub fn answer_payloads(alloc: Global, verdict: &Verdict) -> Result<Items<Payload>, AllocError>
     ensures payloads { IfOk result (λ payloads. payloads ≡ payloads_of_verdict verdict.now) }
     ensures fits { IfOk result (λ payloads. FewAreNamed verdict.now → CanBeSent payloads) }

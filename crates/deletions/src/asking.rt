@@ -8,10 +8,10 @@ use std::alloc::{AllocError, Global};
 use wire::Payload;
 use wire::numbers::IKE_PROTOCOL;
 
-/// The payloads of a request that deletes a child: one Delete of ESP, which names the child by the SPI
-/// under which this end receives (RFC 7296, sections 1.4.1 and 3.11). The caller marks the pair as
-/// Deleting, and takes it out with the response. They fit a message that is sealed. An error is for want of
-/// memory alone.
+/// The payloads of a request that deletes a Child SA: one Delete of ESP, which names the child by the SPI
+/// under which this end receives (RFC 7296, sections 1.4.1 and 3.11). The caller marks the SA pair as
+/// Deleting, and takes it out with the response. They fit a message that is sealed. The only error is an
+/// allocation failure.
 pub fn delete_child(alloc: Global, spi: u32) -> Result<Items<Payload>, AllocError>
     ensures payloads { IfOk result (λ payloads. payloads ≡ child_deletion spi) }
     ensures fits { IfOk result CanBeSent }
@@ -19,9 +19,9 @@ pub fn delete_child(alloc: Global, spi: u32) -> Result<Items<Payload>, AllocErro
     esp_deletion(alloc, &[spi])
 }
 
-/// The payloads of a request that deletes the IKE association under which it is sent, with its children:
-/// one Delete of IKE, which names no SPI (RFC 7296, sections 1.4.1 and 3.11). They fit a message that is
-/// sealed. An error is for want of memory alone.
+/// The payloads of a request that deletes the IKE SA under which it is sent, with its Child SAs: one Delete
+/// of IKE, which names no SPI (RFC 7296, sections 1.4.1 and 3.11). They fit a message that is sealed. The
+/// only error is an allocation failure.
 pub fn delete_association(alloc: Global) -> Result<Items<Payload>, AllocError>
     ensures payloads { IfOk result (λ payloads. payloads ≡ association_deletion) }
     ensures fits { IfOk result CanBeSent }

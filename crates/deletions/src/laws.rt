@@ -22,17 +22,17 @@ ghost use Rattle.deletions.specs.declared.naming.DeletedPairs.{DeletedPairs};
 
 use wire::laws::octets_spell_one_message;
 
-/// A pair goes for one SPI exactly if it is Live and sends under it for this IKE association, and no pair
-/// of a lesser serial does.
+/// An SA pair goes for one SPI exactly if it is Live and sends under it for this IKE SA, and no pair of a
+/// lesser serial does.
 pub fn live_senders_go()
     ensures { (pairs : PairMap) (ike spi serial : ℕ) (pair : Pair)
         → (deleted_for pairs ike spi ≡ Some (serial, pair))
         ↔ (IsSenderUnder pairs ike spi serial × (pair_at pairs serial ≡ Some pair) × (pair.state ≡ Live)) }
 {}
 
-/// Each pair that goes is Live and sends under one of the SPIs that are named, for this IKE association,
-/// and none goes twice; the first that sends under a named SPI goes, if it is Live. With each goes the SPI
-/// under which this end receives by it. No more go than SPIs are named.
+/// Each SA pair that goes is Live and sends under one of the SPIs that are named, for this IKE SA, and none
+/// goes twice; the first that sends under a named SPI goes, if it is Live. With each goes the SPI under which
+/// this end receives by it. No more go than SPIs are named.
 pub fn what_is_named_goes()
     ensures meant { (pairs : PairMap) (ike : ℕ) (spis : List ℕ)
         → All (λ serial. Any (λ spi. SendsUnder pairs ike spi serial) spis)
@@ -54,7 +54,7 @@ pub fn what_is_named_goes()
 {}
 
 /// What one more SPI adds to those that a Delete names before it (RFC 7296, section 3.11). It is judged by
-/// the pairs that are left: the first of them that sends under it goes, behind the others, if it is Live;
+/// the SA pairs that are left: the first of them that sends under it goes, behind the others, if it is Live;
 /// else none goes. So of two Live pairs that send under one SPI both go where it is named twice, the older
 /// first. What is named later changes nothing of what goes before it.
 pub fn names_are_worked_in_order()
@@ -79,9 +79,9 @@ pub fn names_are_worked_in_order()
         × ((deleted_by pairs ike (spis ++ more)).serials ≡ (deleted_by pairs ike spis).serials ++ later) }
 {}
 
-/// What is judged of a request that is in the grammar, each where nothing before it applies: a payload that
-/// is not known and marked as critical (RFC 7296, section 2.5), more SPIs than a message may name, a Delete
-/// of IKE, and else the pairs that are named.
+/// What is judged of a request that is in the grammar, each where nothing before it applies. It is a payload
+/// that is not known and marked as critical (RFC 7296, section 2.5), more SPIs than a message may name, a
+/// Delete of IKE, and else the SA pairs that are named.
 pub fn requests_are_judged_in_order()
     ensures unsupported { (pairs : PairMap) (ike kind : ℕ) (payloads : List Payload)
         → (verdict_of pairs ike payloads ≡ Unsupported kind) ↔ (unknown_critical payloads ≡ Some kind) }
@@ -99,8 +99,8 @@ pub fn requests_are_judged_in_order()
         × (found ≡ deleted_by pairs ike (esp_spis payloads))) }
 {}
 
-/// What is made of a request is determined by the table's pairs, the association and what the request
-/// opened to. Does nothing.
+/// What is made of a request is determined by the table's SA pairs, the IKE SA and what the request opened
+/// to. Does nothing.
 pub fn verdicts_are_determined()
     ensures { (pairs : PairMap) (ike : ℕ) (plain : Plain) (a b : Verdict)
         → IsVerdictOn pairs ike plain a → IsVerdictOn pairs ike plain b → a ≡ b }
@@ -108,8 +108,8 @@ pub fn verdicts_are_determined()
     octets_spell_one_message();
 }
 
-/// The pairs that are to go can be taken out of the table in which they were found, and no pair of another
-/// IKE association goes with them.
+/// The SA pairs that are to go can be taken out of the table in which they were found, and no pair of another
+/// IKE SA goes with them.
 pub fn what_is_decided_can_be_removed()
     ensures there { (pairs : PairMap) (ike : ℕ) (found : DeletedPairs) → AreLivePairs pairs ike found
         → All (IsThere pairs) found.serials }
@@ -121,30 +121,31 @@ pub fn what_is_decided_can_be_removed()
         → (pair_at new.pairs serial ≡ Some pair) ↔ (pair_at old.pairs serial ≡ Some pair) }
 {}
 
-/// What a table holds once pairs were taken out goes by what it held before, whatever room there is.
+/// What a table holds once SA pairs were taken out goes by what it held before, whatever spare capacity there
+/// is.
 pub fn removals_are_determined()
     ensures { (old other a b : Database) (serials : List ℕ) → table_content old ≡ table_content other
         → RemovesNamed old serials a → RemovesNamed other serials b → table_content a ≡ table_content b }
 {}
 
-/// A table that pairs were taken out of follows from the one that held them.
+/// A table that SA pairs were taken out of follows from the one that held them.
 pub fn removals_follow()
     ensures { (old new : Database) (serials : List ℕ) → IsSoundTable old → RemovesNamed old serials new
         → Follows old new }
 {}
 
-/// Room that was made stays: a table that is ready to give an SPI without memory is so once pairs were
+/// Room that was made stays: a table that is ready to give an SPI without memory is so once SA pairs were
 /// taken out.
 pub fn room_stays()
     ensures { (old new : Database) (serials : List ℕ) → IsReady old → RemovesNamed old serials new
         → IsReady new }
 {}
 
-/// Where the two ends of a child hold pairs that mirror each other, and the peer's is Live and the first of
-/// its association that sends under the SPI, what one end asks for names the other's pair, and the answer
-/// is what the other end would have asked for itself. Where both ask at once (RFC 7296, section 1.4.1), so
-/// that the peer's is Deleting, nothing goes and the answer names nothing. A deletion of the IKE
-/// association closes it.
+/// The two ends of a Child SA may hold SA pairs that mirror each other, and the peer's may be Live and the
+/// first of its IKE SA that sends under the SPI. Then what one end asks for names the other's pair, and the
+/// answer is what the other end would have asked for itself. Where both ask at once (RFC 7296, section
+/// 1.4.1), so that the peer's is Deleting, nothing goes and the answer names nothing. A deletion of the IKE
+/// SA closes it.
 pub fn peers_understand_deletions()
     ensures child { (pairs : PairMap) (ike serial : ℕ) (ours theirs : Pair) → Mirrors ours theirs
         → IsSenderUnder pairs ike ours.inbound.association.spi serial → pair_at pairs serial ≡ Some theirs

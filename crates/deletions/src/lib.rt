@@ -1,11 +1,10 @@
 //! Deletions (RFC 7296, sections 1.4.1 and 3.11): what a request of INFORMATIONAL with Delete payloads asks
-//! for, which pairs of the association table go for it, and what answers it.
+//! for, which SA pairs go from the table for it, and what answers it.
 //!
-//! No message number, timer or IKE association is known here: an association is its serial alone, a request
-//! is what it opened to, and an answer is a list of payloads. [`delete_child`] and [`delete_association`]
-//! make the payloads of a request of this end, and change nothing. A request of the peer is judged by
-//! [`decide`], which changes nothing either; [`answer_payloads`] makes the reply, and [`remove_named`]
-//! takes the pairs out.
+//! No Message ID and no timer is known here, and of an IKE SA its serial alone. A request is what it opened
+//! to, and an answer is a list of payloads. [`delete_child`] and [`delete_association`] make the payloads of
+//! a request of this end, and change nothing. A request of the peer is judged by [`decide`], which changes
+//! nothing either; [`answer_payloads`] makes the reply, and [`remove_named`] takes the pairs out.
 //!
 //! What follows from the definitions alone is in [`laws`].
 //!

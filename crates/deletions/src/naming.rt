@@ -1,4 +1,4 @@
-//! Which pairs go for the SPIs that a peer names.
+//! Which SA pairs go for the SPIs that a peer names.
 ghost use Rattle.std.specs.Prelude.{◌≡◌, ◌↔◌, ℕ, Some, None, IfNone, IfOk, IfSome, IsTrue};
 ghost use Rattle.sadb.specs.Database.{BelongsTo, IsSenderUnder, SendsUnder};
 ghost use Rattle.deletions.specs.Naming.{deleted_by, deleted_for, without};
@@ -7,7 +7,7 @@ use base::Items;
 use sadb::{Pair, State, Table};
 use std::alloc::{AllocError, Global};
 
-/// The pairs that a peer deletes, each once, in the order in which it names them.
+/// The SA pairs that a peer deletes, each once, in the order in which it names them.
 #[derive(Debug, PartialEq, Eq, Drop)]
 pub struct DeletedPairs {
     /// Their serials in the table.
@@ -17,7 +17,7 @@ pub struct DeletedPairs {
     pub inbound_spis: Items<u32>,
 }
 
-// The pairs of an IKE association that go where its peer names these SPIs, which are worked through in order.
+// The SA pairs of an IKE SA that go where its peer names these SPIs, which are worked through in order.
 pub(crate) fn find_deleted(
     alloc: Global,
     table: &Table,
@@ -40,7 +40,7 @@ pub(crate) fn find_deleted(
     })
 }
 
-// The pair that goes for an SPI where those with some serials went before, if one does.
+// The SA pair that goes for an SPI where those with some serials went before, if one does.
 fn deleted_for<'a>(table: &'a Table, ike: u32, spi: u32, gone: &[u32]) -> Option<&'a Pair>
     ensures some { IfSome result (λ pair.
         deleted_for (without table.now.pairs gone.now) ike spi ≡ Some (pair.now.serial, pair.now)) }
@@ -55,8 +55,8 @@ fn deleted_for<'a>(table: &'a Table, ike: u32, spi: u32, gone: &[u32]) -> Option
     }
 }
 
-// The serial of the pair that sends under an SPI where those with some serials went before; of several, the
-// least.
+// The serial of the SA pair that sends under an SPI where those with some serials went before; of several,
+// the least.
 fn sender_left(table: &Table, ike: u32, spi: u32, gone: &[u32]) -> Option<u32>
     ensures some { IfSome result (IsSenderUnder (without table.now.pairs gone.now) ike spi) }
     ensures none { IfNone result
@@ -73,7 +73,7 @@ fn sender_left(table: &Table, ike: u32, spi: u32, gone: &[u32]) -> Option<u32>
     None
 }
 
-// Whether a pair of an IKE association sends under an SPI where those with some serials went before.
+// Whether an SA pair of an IKE SA sends under an SPI where those with some serials went before.
 fn sends_still(table: &Table, serial: u32, ike: u32, spi: u32, gone: &[u32]) -> bool
     requires { BelongsTo table.now.pairs ike serial }
     ensures { IsTrue result ↔ SendsUnder (without table.now.pairs gone.now) ike spi serial }

@@ -20,7 +20,7 @@ use Rattle.deliveries.proofs.StepLemmas.{judged_or_away, one_taking, PacketFacts
 use Rattle.deliveries.proofs.TableLemmas.{one_held}
 use Rattle.deliveries.proofs.WindowLemmas.{judged_anyway}
 
--- the pair that stands under the serial is the one that a packet is addressed to
+-- the SA pair that stands under the serial is the one that a packet is addressed to
 addressee : (old : Database) (packet : Octets) (child n : ℕ) (new : Database) (pair : Pair) → TakesNumberAt old packet child n new → pair_at old.pairs child ≡ Some pair
     → IsAddressedTo old packet pair
 addressee old packet child n new pair takes stands =
@@ -82,7 +82,7 @@ module _ (facts : PacketFacts) (old : Database) (packet : Octets) (child n : ℕ
   due (Clear octets) is = is
   due Discarded is = is
 
--- the refusal of a packet that comes to a pair
+-- the refusal of a packet that comes to an SA pair
 pub record IsShut (pair : Pair) (packet : Octets) (fault : PacketFault) : Type 0 where
   pub refusal : EspFault
   pub fault_is : fault ≡ Esp refusal
@@ -146,7 +146,7 @@ module _ (old : Database) (packet : Octets) (child : ℕ) (pair : Pair) (stands 
   shut fault new before (inr (inl is)) = unopened fault new before is
   shut fault new before (inr (inr is)) = absurd (rejected fault new before is)
 
-  -- one that its window would judge is judged, as this number of this child
+  -- one that its window would judge is judged, as this number of this Child SA
   module _ (facts : PacketFacts) (n : ℕ) (judged : Judges pair.inbound.association pair.inbound.window packet n) where
     so_taken : (new : Database) → TakesOneNumber old packet new → TakesNumberAt old packet child n new
     so_taken new t =
@@ -172,7 +172,7 @@ lost_unopened old packet (Inner fault) new is none = is
 lost_unopened old packet UnknownAssociation new is none = is
 lost_unopened old packet OutsideSelectors new is none = is
 
--- a packet that is dropped unjudged and is for no pair reaches none
+-- a packet that is dropped unjudged and is for no SA pair reaches none
 pub lost : (old : Database) (packet : Octets) (fault : PacketFault) (new : Database) → is_after_judging fault ≡ false → Receives old packet (Dropped fault) new
     → ((pair : Pair) → ¬ IsAddressedTo old packet pair) → IsAddressedToNone old packet fault
 lost old packet fault new before (inl is) none = is.0

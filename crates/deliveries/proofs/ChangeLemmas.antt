@@ -16,7 +16,7 @@ use Rattle.traffic.specs.declared.fault.PacketFault.TheVariants.{UnknownAssociat
 use Rattle.deliveries.specs.Passages.{BringsUnused, LeavesWindows, StoodSo}
 use Rattle.deliveries.proofs.TableLemmas.{changed_apart, changed_here, changed_next, inserted_apart, inserted_here, one_held, removed_apart, removed_here}
 
--- each pair stood as it stands, and none came
+-- each SA pair stood as it stands, and none came
 record Keeps (old new : Database) : Type 0 where
   next : new.next ≡ old.next
   each : (serial : ℕ) (pair : Pair) → pair_at new.pairs serial ≡ Some pair → StoodSo old serial pair
@@ -34,7 +34,7 @@ keeping old new sound keeps = record {
 stood : (old : Database) (serial : ℕ) (pair : Pair) → pair_at old.pairs serial ≡ Some pair → StoodSo old serial pair
 stood old serial pair there = record { was = pair; there = there; inbound = refl; local = refl; remote = refl }
 
--- the pairs are as they were
+-- the SA pairs are as they were
 same_pairs : (old new : Database) → new.next ≡ old.next → new.pairs ≡ old.pairs → Keeps old new
 same_pairs old new next pairs = record {
   next = next;
@@ -69,7 +69,7 @@ pub released : (old new : Database) (spi : ℕ) → IsSoundTable old → Release
 released old new spi sound is =
     keeping old new sound (same_pairs old new (ap (λ (d : Database). d.next) is.content) (ap (λ (d : Database). d.pairs) is.content))
 
--- one pair changed, but neither its inbound association nor its selectors
+-- one SA pair changed, but neither its inbound SA nor its selectors
 kept_by_change : (old : Database) (serial : ℕ) (was is : Pair) (new : Database) → ChangesAt old serial was is new → is.inbound ≡ was.inbound
     → is.local ≡ was.local → is.remote ≡ was.remote → Keeps old new
 kept_by_change old serial was is new changed inbound local remote = record {

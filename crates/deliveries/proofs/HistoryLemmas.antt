@@ -1,5 +1,5 @@
--- The steps of a list as deliveries to one child: what holds of the deliveries to one association holds of
--- the child.
+-- The steps of a list as deliveries to one Child SA: what holds of the deliveries to one SA holds of the
+-- child.
 use Rattle.std.proofs.Common.{◌≡◌, ◌↔◌, ◌≤◌, ℕ, zero, suc, Bool, cond, Option, Some, None, List, [], ◌∷◌, length, map, refl, sym, ap, ◌∙◌, subst, arith, inl, inr}
 use Rattle.std.specs.Prelude.{nat_eq, slice_get}
 use Rattle.std.specs.Ordering.{nat_cmp}
@@ -21,7 +21,7 @@ use Rattle.deliveries.specs.Numbers.{AreNumbersOf, IsJudgedAs, seen_before, take
 use Rattle.deliveries.specs.Passages.{Passage, Reception}
 use Rattle.deliveries.proofs.SameLemmas.{HasEnd}
 
--- the packet that comes to a child at a step, and else one of no octets, which is never judged
+-- the packet that comes to a Child SA at a step, and else one of no octets, which is never judged
 abbrev delivered : Option Pair → Option Reception → Octets
 delivered None received = []
 delivered (Some pair) None = []
@@ -115,7 +115,7 @@ module _ (child : ℕ) (ps : List Passage) (ns : List (Option ℕ)) (end : HasEn
     numbers = ns;
   }
 
-  -- what the rule says of the child's pair it says of the history
+  -- what the rule says of the Child SA's SA pair it says of the history
   module _ (place : ℕ) (p : Passage) (pair : Pair) (here : slice_get ps place ≡ Some p) (stands : pair_at p.before.pairs child ≡ Some pair) where
     association_same : pair.inbound.association ≡ end.association
     association_same = end.association_is place p pair here stands
@@ -174,7 +174,7 @@ module _ (child : ℕ) (ps : List Passage) (ns : List (Option ℕ)) (end : HasEn
       judged = λ place n b at. (numbered_judged place n b at, judged_numbered place n b at);
     }
 
-  -- the premise, and the arrivals
+  -- the assumption, and the arrivals
   module _ (sent : finite_map.FinMap nat_cmp Octets) (u : Unforged child ps ns sent) where
     other_sent : (place n : ℕ) (b : Octets) → slice_get (map (delivered_to child) ps) place ≡ Some b → IsJudgedLength (length b)
         → IsNumber end.association.extended (taken_at child_history place) (low_half b) n → PassesIntegrity end.association n b → finite_map.get sent n ≡ Some b
@@ -186,7 +186,7 @@ module _ (child : ℕ) (ps : List Passage) (ns : List (Option ℕ)) (end : HasEn
         u.no_other place n b d.passage c.pair d.here comes whole (number_out place d.passage c.pair d.here comes.stands (low_half b) n number)
         (subst (λ (a : Sa). PassesIntegrity a n b) (sym (association_same place d.passage c.pair d.here comes.stands)) intact)
 
-    -- where the pair stands anywhere
+    -- where the SA pair stands anywhere
     pub unforged_in : (place : ℕ) (p : Passage) (pair : Pair) → slice_get ps place ≡ Some p → pair_at p.before.pairs child ≡ Some pair
         → esp.Unforged child_history sent
     unforged_in place p pair here stands = record {

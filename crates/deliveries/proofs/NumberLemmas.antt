@@ -1,11 +1,11 @@
--- There is one list of the numbers of a child.
+-- There is one list of the sequence numbers of a Child SA.
 use Rattle.std.proofs.Common.{◌≡◌, ℕ, suc, Option, Some, None, List, [], ◌∷◌, length, refl, sym, ap, ◌∙◌, arith, inl, inr}
 use Rattle.std.specs.Prelude.{slice_get}
 use Rattle.std.proofs.lemmas.Option.{slice_get_cases, slice_get_within}
 use Rattle.deliveries.specs.Numbers.{AreNumbersOf}
 use Rattle.deliveries.specs.Passages.{Passage}
 
--- two lists of one length that have the same numbers at each place
+-- two lists of one length that have the same sequence numbers at each place
 one_number : (o q : Option ℕ) → ((n : ℕ) → o ≡ Some n → q ≡ Some n) → ((n : ℕ) → q ≡ Some n → o ≡ Some n) → o ≡ q
 one_number None None f g = refl
 one_number (Some n) q f g = sym (f n refl)
@@ -28,7 +28,7 @@ one_by_places (n ∷ ns) (m ∷ ms) each f g =
     λ i. first i ∷ others i
 
 module _ (child : ℕ) (ps : List Passage) where
-  -- a number of one list is one of the other
+  -- a sequence number of one list is one of the other
   there : (ns ms : List (Option ℕ)) → AreNumbersOf child ps ns → AreNumbersOf child ps ms → (place n : ℕ) → slice_get ns place ≡ Some (Some n)
       → slice_get ms place ≡ Some (Some n)
   there ns ms one other place n is =

@@ -27,7 +27,7 @@ use Rattle.deliveries.proofs.WindowLemmas.{judged_by_all, judged_by_shown, refus
 received_so : (p : Passage) (r : Reception) → IsPassage p → p.received ≡ Some r → Receives p.before r.packet r.outcome p.after
 received_so p r is received = subst (λ (o : Option Reception). Leads p.before o p.after) received is.leads
 
--- what is judged comes to the child
+-- what is judged comes to the Child SA
 record JudgedComes (child n : ℕ) (p : Passage) : Type 0 where
   pair : Pair
   packet : Octets
@@ -52,7 +52,7 @@ judged_comes child n p j = record {
 one_packet : (a b : Octets) → Some a ≡ Some b → a ≡ b
 one_packet a b is = cc
 
--- what takes a number at the step is the child that the packet comes to
+-- what takes a sequence number at the step is the Child SA that the packet comes to
 none_comes : (child : ℕ) (p : Passage) (r : Reception) (pair : Pair) → p.received ≡ Some r → ComesTo child pair r.packet p → ((n : ℕ) → ¬ IsJudgedAs child n p)
     → TakesOneNumber p.before r.packet p.after → ⊥
 none_comes child p r pair received comes none t =
@@ -190,7 +190,7 @@ turned_away facts p r is received none = elim (judged_or_away facts p.before r.p
   | inr away ↦ record { fault = away.fault; dropped = away.dropped; before_judging = away.before_judging; unchanged = away.unchanged }
 ]
 
--- a packet that is addressed to a pair comes to it
+-- a packet that is addressed to an SA pair comes to it
 reaches_none : PacketFacts → (p : Passage) (r : Reception) → IsPassage p → p.received ≡ Some r → ((child : ℕ) (pair : Pair) → ¬ ComesTo child pair r.packet p) → ReachesNone r p
 reaches_none facts p r is received none =
     let comes_to : (pair : Pair) → ¬ IsAddressedTo p.before r.packet pair =

@@ -1,4 +1,4 @@
--- A child is what it was as long as its pair stands, and never comes back.
+-- A Child SA is what it was as long as its SA pair stands, and never comes back.
 use Rattle.std.proofs.Common.{◌≡◌, ◌<◌, ◌≤◌, ℕ, zero, suc, false, Option, Some, None, List, [], ◌∷◌, refl, sym, ap, ◌∙◌, subst, arith, inl, inr}
 use Rattle.std.specs.Prelude.{IsSome, slice_get}
 use Rattle.esp.specs.declared.sa.Sa.{Sa}
@@ -21,7 +21,7 @@ same_again a b c first second = record {
   remote = second.remote ∙ first.remote;
 }
 
--- a pair stood under the serial that was the same end
+-- an SA pair stood under the serial that was the same end
 pub record StoodAs (table : Database) (child : ℕ) (is : Pair) : Type 0 where
   pub was : Pair
   pub there : pair_at table.pairs child ≡ Some was
@@ -166,7 +166,7 @@ module _ (facts : PacketFacts) (child : ℕ) where
     absent = λ first place p q order at_first at_place below none. absent old ps new first place p q trail order at_first at_place below none;
   }
 
--- wherever its pair stands, it has one association and one size of its window
+-- wherever its SA pair stands, it has one SA and one size of its window
 pub record HasEnd (child : ℕ) (ps : List Passage) : Type 0 where
   pub association : Sa
   pub size : ℕ

@@ -1,4 +1,5 @@
--- What one step does to a child: which number of its is judged, if any, and what of it stands afterwards.
+-- What one step does to a Child SA: which sequence number of its is judged, if any, and what of it stands
+-- afterwards.
 use Rattle.std.proofs.Common.{◌≡◌, ◌≢◌, ◌⊎◌, ◌↔◌, ◌+◌, ◌<◌, ◌≤◌, ◌||◌, ◌&&◌, ℕ, Bool, true, false, Option, Some, None, refl, sym, ap, ◌∙◌, subst, arith, inl, inr}
 use Rattle.std.specs.Prelude.{nat_eq, nat_lt}
 use Rattle.std.proofs.lemmas.Bool.{and_from, both_ways, cases_Bool, eq-eqb, lt-ltb, or_left}
@@ -29,7 +30,7 @@ pub record PacketFacts : Type 0 where
   pub before : (old new : Database) (packet : Octets) (fault : PacketFault) → Receives old packet (Dropped fault) new → is_after_judging fault ≡ false → new ≡ old
   pub inbound : (pairs : PairMap) (spi : ℕ) (a b : Pair) → IsInbound pairs spi a → IsInbound pairs spi b → a ≡ b
 
--- a packet takes a number, or is turned away
+-- a packet takes a sequence number, or is turned away
 pub record IsAway (old : Database) (outcome : Outcome) (new : Database) : Type 0 where
   pub fault : PacketFault
   pub dropped : outcome ≡ Dropped fault
@@ -48,7 +49,7 @@ judged_or_away facts old packet (Sealed child number octets) new is = absurd is
 judged_or_away facts old packet (Clear octets) new is = absurd is
 judged_or_away facts old packet Discarded new is = absurd is
 
--- a packet takes one number, of one child
+-- a packet takes one number, of one Child SA
 pub record IsOneTaking (child other n m : ℕ) : Type 0 where
   pub child_is : child ≡ other
   pub number_is : n ≡ m
@@ -67,7 +68,7 @@ one_taking facts old packet child other n m new last first second =
 taken_true : (is_new was in_span : Bool) → is_new ≡ true → in_span ≡ true → ((is_new || was) && in_span) ≡ true
 taken_true is_new was in_span one two = and_from _ _ (or_left is_new was one) two
 
--- what takes a number changes the table
+-- what takes a sequence number changes the table
 pub taking_changes : (old : Database) (packet : Octets) (child n : ℕ) (new : Database) → TakesNumberAt old packet child n new → new ≡ old → ⊥
 taking_changes old packet child n new takes same =
     let w = takes.pair.inbound.window in
@@ -81,7 +82,7 @@ taking_changes old packet child n new takes same =
     both_ways _ takes.judged.new (again.taken n ∙ taken_true (nat_eq n n) (set.contains w.taken n) (nat_lt w.top (n + w.size))
     (eq-eqb n n refl) (lt-ltb w.top (n + w.size) takes.judged.in_reach))
 
--- which number of the child's is judged at a step
+-- which sequence number of the Child SA's is judged at a step
 pub record NumberAt (child : ℕ) (p : Passage) : Type 0 where
   pub number : Option ℕ
   pub exactly : (n : ℕ) → (number ≡ Some n) ↔ IsJudgedAs child n p
@@ -148,8 +149,8 @@ module _ (facts : PacketFacts) (child : ℕ) (old : Database) where
 pub number_at : PacketFacts → (child : ℕ) (p : Passage) → IsPassage p → NumberAt child p
 number_at facts child p is = number_by facts child p.before p.received p.after is.leads
 
--- The pair that stands under a serial after a step was there before: it took the number that was judged, or
--- nothing of it changed.
+-- The SA pair that stands under a serial after a step was there before: it took the sequence number that was
+-- judged, or nothing of it changed.
 pub record Took (child : ℕ) (p : Passage) (was is : Pair) : Type 0 where
   pub number : ℕ
   pub judged : IsJudgedAs child number p
@@ -244,7 +245,7 @@ module _ (facts : PacketFacts) (child : ℕ) (old : Database) where
       }
   stood_by (Some r) new is leads below there = stood_received r new is leads there
 
-  -- one that comes has a window in which no number is taken
+  -- one that comes has a window in which no sequence number is taken
   came_by : (received : Option Reception) (new : Database) (is : Pair) → IsSoundTable old → Leads old received new → old.next ≤ child
       → pair_at new.pairs child ≡ Some is → (n : ℕ) → set.contains is.inbound.window.taken n ≡ false
   came_by None new is sound leads above there n = leads.new_pairs child n is above there

@@ -33,7 +33,7 @@ held_or_not X (Some x) = inr (record { value = x; is = refl })
 pub one_held : (a b : Pair) → Some a ≡ Some b → a ≡ b
 one_held a b is = cc
 
--- where one pair of a table changed
+-- where one SA pair of a table changed
 module _ (old : Database) (serial : ℕ) (was is : Pair) (new : Database) (changed : ChangesAt old serial was is new) where
   pub changed_here : pair_at new.pairs serial ≡ Some is
   changed_here = ap (λ (d : Database). pair_at d.pairs serial) changed.content ∙ inserted_here old.pairs serial serial is refl

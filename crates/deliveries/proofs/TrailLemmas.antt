@@ -1,5 +1,5 @@
--- Step after step: the numbers of a child that are judged, and that its window shows what it spans of all
--- numbers taken.
+-- Step after step: the sequence numbers of a Child SA that are judged, and that its window shows what it
+-- spans of all numbers taken.
 use Rattle.std.proofs.Common.{◌≡◌, ◌↔◌, ◌≤◌, ℕ, zero, suc, false, Option, Some, None, List, [], ◌∷◌, length, take, refl, sym, ap, ◌∙◌, subst, arith, inl, inr}
 use Rattle.std.specs.Prelude.{slice_get}
 use Rattle.std.specs.Ordering.{nat_cmp}
@@ -18,7 +18,7 @@ use Rattle.deliveries.proofs.StepLemmas.{came_unused, judged_stands, next_grows,
 use Rattle.deliveries.proofs.TableLemmas.{held_or_not, one_held}
 use Rattle.deliveries.proofs.WindowLemmas.{none_shown}
 
--- step by step, the number that is judged
+-- step by step, the sequence number that is judged
 abbrev pub AreJudgedAs : ℕ → List Passage → List (Option ℕ) → Type 0
 AreJudgedAs child [] [] = Unit {0}
 AreJudgedAs child (p ∷ ps) (number ∷ numbers) = ((n : ℕ) → (number ≡ Some n) ↔ IsJudgedAs child n p) × AreJudgedAs child ps numbers
@@ -67,8 +67,8 @@ are_numbers child ps ns are = record {
   exactly = λ place n p there. (numbered_there child ps ns place n p are there, there_numbered child ps ns place n p are there);
 }
 
--- The child's window shows these numbers, where its pair stands; and where its pair is still to come, none
--- was taken.
+-- The Child SA's window shows these sequence numbers, where its SA pair stands; and where its pair is still
+-- to come, none was taken.
 pub record Holds (table : Database) (child : ℕ) (taken : set.FinSet nat_cmp) : Type 0 where
   pub shown : (pair : Pair) → pair_at table.pairs child ≡ Some pair → Shows pair.inbound.window pair.inbound.window.size taken
   pub unborn : table.next ≤ child → (n : ℕ) → set.contains taken n ≡ false
@@ -77,7 +77,7 @@ none_judged : (number : Option ℕ) → ((n : ℕ) → ¬ (number ≡ Some n)) �
 none_judged None none = refl
 none_judged (Some n) none = absurd (none n refl)
 
--- what is taken after a step at which this number is judged, or none
+-- what is taken after a step at which this sequence number is judged, or none
 after_none : (taken : set.FinSet nat_cmp) (number : Option ℕ) → number ≡ None → taken ≡ taken_after taken (number ∷ [])
 after_none taken number is = ap (λ (o : Option ℕ). taken_after taken (o ∷ [])) (sym is)
 
@@ -92,7 +92,7 @@ module _ (facts : PacketFacts) (child : ℕ) (p : Passage) (is : IsPassage p) (t
   positive : (n : ℕ) → IsJudgedAs child n p → 1 ≤ n
   positive n j = judged_positive j.takes.pair.inbound.association j.takes.pair.inbound.window j.reception.packet n j.takes.judged
 
-  -- a pair that stood
+  -- an SA pair that stood
   shown_of_old : (pair : Pair) → Stood child p pair → Shows pair.inbound.window pair.inbound.window.size afterwards
   shown_of_old pair stood =
       let before : Shows stood.was.inbound.window stood.was.inbound.window.size taken = holds.shown stood.was stood.there in
@@ -112,7 +112,7 @@ module _ (facts : PacketFacts) (child : ℕ) (p : Passage) (is : IsPassage p) (t
             subst (λ (s : set.FinSet nat_cmp). Shows pair.inbound.window pair.inbound.window.size s) (after_none taken number none) still
       ]
 
-  -- where the pair is still to come, none is judged
+  -- where the SA pair is still to come, none is judged
   none_yet : p.before.next ≤ child → (n : ℕ) → set.contains afterwards n ≡ false
   none_yet above n =
       let none : number ≡ None = none_judged number (λ m e. (let below = judged_stands facts child p is m ((exactly m).0 e) in omega arith)) in
@@ -128,7 +128,7 @@ module _ (facts : PacketFacts) (child : ℕ) (p : Passage) (is : IsPassage p) (t
     unborn = λ above. (let grows = next_grows facts child p is in none_yet (omega arith));
   }
 
--- what is taken after one more number in front
+-- what is taken after one more sequence number in front
 taken_one_more : (taken : set.FinSet nat_cmp) (n : Option ℕ) (ns : List (Option ℕ)) → taken_after (taken_after taken (n ∷ [])) ns ≡ taken_after taken (n ∷ ns)
 taken_one_more taken None ns = refl
 taken_one_more taken (Some n) ns = refl

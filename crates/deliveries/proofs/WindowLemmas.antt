@@ -1,4 +1,5 @@
--- What a window that shows some numbers says of a packet, they all say; and what is judged is not refused.
+-- What a window that shows some sequence numbers says of a packet, they all say; and what is judged is not
+-- refused.
 use Rattle.std.proofs.Common.{◌≡◌, ◌+◌, ◌<◌, ℕ, Bool, true, false, List, refl, sym, ap, ◌∙◌, subst, arith, inl, inr}
 use Rattle.std.specs.Prelude.{nat_lt}
 use Rattle.std.specs.Cmp.{nat_cmp_total}
@@ -16,7 +17,7 @@ use Rattle.esp.specs.Packet.{PassesIntegrity}
 use Rattle.esp.proofs.NumberLemmas.{one_number_of}
 use Rattle.esp.proofs.Runs.{sound_shown}
 
--- a number at one window is that at another with the same top and size
+-- a sequence number at one window is that at another with the same top and size
 number_seen : (e : Bool) (w v : Seen) (low n : ℕ) → w.top ≡ v.top → w.size ≡ v.size → IsNumber e w low n → IsNumber e v low n
 number_seen false w v low n top size h = h
 number_seen true w v low n top size h = record {
@@ -75,7 +76,7 @@ module _ (w : Seen) (taken : set.FinSet nat_cmp) (shows : Shows w w.size taken) 
   refused_by_all a b BadPadding h = h
   refused_by_all a b Memory h = h
 
--- a sound window in which no number is taken shows any numbers that are none
+-- a sound window in which no sequence number is taken shows any numbers that are none
 pub none_shown : (w : Seen) (taken : set.FinSet nat_cmp) → IsSoundWindow w → ((n : ℕ) → set.contains w.taken n ≡ false)
     → ((n : ℕ) → set.contains taken n ≡ false) → Shows w w.size taken
 none_shown w taken sound none none_taken =

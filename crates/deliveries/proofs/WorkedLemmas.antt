@@ -1,4 +1,4 @@
--- The worked list of steps is a trail, and no check value in it is forged.
+-- The worked list of steps is a trail, and no ICV in it is forged.
 use Rattle.std.proofs.Common.{◌≡◌, ◌≢◌, ◌↔◌, ◌+◌, ◌≤◌, ◌||◌, ◌&&◌, ℕ, zero, suc, Bool, true, false, cond, Some, None, ◌++◌, refl, sym, ap, ◌∙◌, subst, arith, inl, inr}
 use Rattle.std.specs.Prelude.{nat_eq, nat_lt, slice_get}
 use Rattle.std.specs.Cmp.{nat_cmp_total}
@@ -77,7 +77,7 @@ seven_there = contains-insert_nat set.empty 7 7 ∙ or_left (nat_eq 7 7) (set.co
 seven_sound : IsSoundWindow seven_taken
 seven_sound = takes_sound unused seven_taken 7 unused_sound (record { not_zero = omega arith; not_old = omega arith; not_taken = none_taken 7 }) (omega arith) seven_is_taken
 
--- ---- tables of the one pair
+-- ---- tables of the one SA pair
 
 record IsOne (w : Seen) (serial : ℕ) (pair : Pair) : Type 0 where
   serial_is : serial ≡ 1
@@ -327,7 +327,7 @@ nothing p is = cc
 none_came : (r : Reception) → None ≡ Some r → ⊥
 none_came r is = cc
 
--- a number that is not extended goes by no window
+-- a sequence number that is not extended goes by no window
 plain_number : (e : Bool) (w v : Seen) (low n : ℕ) → e ≡ false → IsNumber e w low n → IsNumber e v low n
 plain_number false w v low n is number = number
 plain_number true w v low n is number = absurd (cc)
@@ -376,7 +376,7 @@ exactly facts is (suc (suc zero)) n p there =
     (λ e. no_number n (IsJudgedAs 1 n second_delivery) e, λ j. absurd (none_again n j))
 exactly facts is (suc (suc (suc place))) n p there = absurd (nothing p there)
 
--- the pair has its association wherever it stands, and what comes is the packet
+-- the SA pair has its SA wherever it stands, and what comes is the packet
 record IsWorkedStep (p : Passage) : Type 0 where
   association : (pair : Pair) → pair_at p.before.pairs 1 ≡ Some pair → pair.inbound.association ≡ worked false
   comes : (reception : Reception) → p.received ≡ Some reception → reception.packet ≡ worked_packet false 7

@@ -1,4 +1,4 @@
--- A table of pairs over steps in a row, of which some are ESP packets that came (RFC 4301 sections 4.4.2
+-- A table of SA pairs over steps in a row, of which some are ESP packets that came (RFC 4301 sections 4.4.2
 -- and 5.2).
 use Rattle.std.specs.Prelude.{◌≡◌, ◌⊎◌, ◌<◌, ◌≤◌, ℕ, false, Option, Some, None, List, [], ◌∷◌}
 use Rattle.std.specs.FinSet as set
@@ -19,7 +19,7 @@ pub record Passage : Type 0 where
   pub received : Option Reception
   pub after : Database
 
--- a pair stood under this serial with the same inbound association and window, and the same selectors
+-- an SA pair stood under this serial with the same inbound SA and window, and the same selectors
 pub record StoodSo (old : Database) (serial : ℕ) (is : Pair) : Type 0 where
   pub was : Pair
   pub there : pair_at old.pairs serial ≡ Some was
@@ -27,16 +27,16 @@ pub record StoodSo (old : Database) (serial : ℕ) (is : Pair) : Type 0 where
   pub local : is.local ≡ was.local
   pub remote : is.remote ≡ was.remote
 
--- What does not come from a packet: pairs go, are marked, seal, and come, and no number is taken. A pair
--- comes under a serial that was not used yet, with a window in which none is taken (RFC 4303 section
--- 3.4.3).
+-- What does not come from a packet: SA pairs go, begin to be deleted, seal, and come, and no sequence number
+-- is taken. A pair comes under a serial that was not used yet, with a window in which none is taken (RFC 4303
+-- section 3.4.3).
 pub record LeavesWindows (old new : Database) : Type 0 where
   pub next : old.next ≤ new.next
   pub old_pairs : (serial : ℕ) (pair : Pair) → serial < old.next → pair_at new.pairs serial ≡ Some pair → StoodSo old serial pair
   pub new_pairs : (serial n : ℕ) (pair : Pair) → old.next ≤ serial → pair_at new.pairs serial ≡ Some pair
       → set.contains pair.inbound.window.taken n ≡ false
 
--- A change of this kind: each pair is as it was, or comes so.
+-- A change of this kind: each SA pair is as it was, or comes so.
 pub record ComesUnused (old : Database) (serial : ℕ) (pair : Pair) : Type 0 where
   pub new : old.next ≤ serial
   pub unused : (n : ℕ) → set.contains pair.inbound.window.taken n ≡ false

@@ -1,4 +1,4 @@
--- A worked list of steps, for which the premises are shown to hold: a packet comes, then something else,
+-- A worked list of steps, for which the assumptions are shown to hold: a packet comes, then something else,
 -- then the packet again.
 use Rattle.std.specs.Prelude.{ℕ, false, Option, Some, None, List, [], ◌∷◌}
 use Rattle.std.specs.FinMap as map
@@ -21,7 +21,7 @@ use Rattle.deliveries.specs.Passages.{IsTrail, Passage}
 abbrev pub any_traffic : List Selector
 any_traffic = record { protocol = 0; start_port = 0; end_port = 65535; addresses = V4 0 4294967295 } ∷ []
 
--- a pair with this window
+-- an SA pair with this window
 abbrev pub worked_pair : Seen → Pair
 worked_pair w = record {
   serial = 1;
@@ -33,7 +33,7 @@ worked_pair w = record {
   state = Live;
 }
 
--- a window of 64 numbers, of which 7 is taken
+-- a window of 64 sequence numbers, of which 7 is taken
 abbrev pub seven_taken : Seen
 seven_taken = record { top = 7; size = 64; taken = set.insert set.empty 7 }
 
@@ -73,7 +73,7 @@ worked_passages = first_delivery ∷ another_step ∷ second_delivery ∷ []
 abbrev pub worked_numbers : List (Option ℕ)
 worked_numbers = Some 7 ∷ None ∷ None ∷ []
 
--- the list is a trail, 7 is judged at its first step alone, and no check value in it is forged
+-- the list is a trail, 7 is judged at its first step alone, and no ICV in it is forged
 pub record IsWorkedTrail : Type 0 where
   pub trail : IsTrail worked_table worked_passages later_table
   pub numbers : AreNumbersOf 1 worked_passages worked_numbers

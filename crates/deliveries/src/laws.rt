@@ -12,15 +12,15 @@ ghost use Rattle.deliveries.specs.Passages.{BringsUnused, IsTrail, LeavesWindows
 ghost use Rattle.deliveries.specs.Promises.{PacketsAreJudged};
 ghost use Rattle.deliveries.specs.Worked.{IsWorkedTrail};
 
-/// Of every list of steps, whatever comes: no number of a child is judged twice, nor one that its window
-/// held when the list began. What is judged is what the rule judges at all numbers taken before, and it is
-/// answered by the verdict on its contents, or refused for its padding (E19). Where no check value was
-/// forged, each packet that was sent to a child is judged exactly at its first arrival while the pair
-/// stands and the number, if it was not taken before, lies inside or above the window and is rightly
-/// recovered, and the verdict is that on the very octets sent. At every other packet nothing is handed up
-/// and the table stays as it was: it is refused for the first fault that the rule finds (E14 to E18), or
-/// reaches no pair (E28, or E14 where it ends before its SPI). A child keeps its SPI, key and selectors;
-/// once gone, before the list or in it, it never comes back, and no packet is judged as its own.
+/// Of every list of steps, whatever comes: no sequence number of a Child SA is judged twice, nor one that its
+/// window held when the list began. What is judged is what the rule judges at all numbers taken before, and
+/// it is answered by the verdict on its contents, or refused for its padding (E19). Where no ICV was forged,
+/// each packet that was sent to a child is judged exactly at its first arrival while the SA pair stands and
+/// the number, if it was not taken before, lies inside or above the window and is rightly recovered, and the
+/// verdict is that on the very octets sent. At every other packet no payload is delivered and the table stays
+/// as it was: it is refused for the first fault that the rule finds (E14 to E18), or reaches no pair (E28, or
+/// E14 where it ends before its SPI). A child keeps its SPI, key and selectors; once gone, before the list or
+/// in it, it never comes back, and no packet is judged as its own.
 pub fn every_list_of_packets_is_judged()
     ensures { (old new : Database) (passages : List Passage) → IsTrail old passages new
         → PacketsAreJudged passages }
@@ -29,15 +29,15 @@ pub fn every_list_of_packets_is_judged()
     traffic::laws::a_packet_takes_one_number();
 }
 
-/// Which numbers of a child are judged, and where, is determined: there is one such list.
+/// Which sequence numbers of a Child SA are judged, and where, is determined: there is one such list.
 pub fn numbers_are_determined()
     ensures { (child : ℕ) (passages : List Passage) (one other : List (Option ℕ))
         → AreNumbersOf child passages one → AreNumbersOf child passages other → one ≡ other }
 {}
 
-/// No change of a table but by a packet that came moves a window: none by any number of changes of room,
-/// SPIs and pairs, where a pair that comes has a window in which no number is taken, nor by a packet that
-/// is sent.
+/// No change of a table but by a packet that came moves a window: none by any number of changes of room, SPIs
+/// and SA pairs, where a pair that comes has a window in which no sequence number is taken, nor by a packet
+/// that is sent.
 pub fn other_changes_leave_windows()
     ensures transitive { (a b c : Database) → LeavesWindows a b → LeavesWindows b c → LeavesWindows a c }
     ensures unchanged { (d : Database) → IsSoundTable d → LeavesWindows d d }
@@ -64,8 +64,8 @@ pub fn other_changes_leave_windows()
         → IsSoundTable old → Sends old policy packet outcome new → LeavesWindows old new }
 {}
 
-/// The premises are met by a packet that comes twice, with another step between: it is a trail, and no
-/// check value in it is forged.
+/// The assumptions are met by a packet that comes twice, with another step between: it is a trail, and no ICV
+/// in it is forged.
 pub fn premises_are_met()
     ensures { IsWorkedTrail }
 {

@@ -1,4 +1,4 @@
--- What becomes of an association and of the table when an exchange is done is determined, but for room.
+-- What becomes of an IKE SA and of the table when an exchange is done is determined, but for spare capacity.
 use Rattle.std.proofs.Common.{◌≡◌, ℕ, Bool, true, false, Option, Some, None, refl, sym, ap, subst, ◌∙◌, List}
 use Rattle.sadb.specs.Contents.{table_content}
 use Rattle.sadb.specs.Database.{Database}
@@ -15,7 +15,7 @@ use Rattle.informational.specs.Orders.{ClosesIf}
 use Rattle.effects.proofs.DeterminedLaws.{TableLaws}
 use Rattle.effects.proofs.WayLemmas.{FurtherIf}
 
--- the child and the table
+-- the Child SA and the table
 pub record SameChild (child other : Option ℕ) (a b : Database) : Type 0 where
   pub child_is : child ≡ other
   pub table : table_content a ≡ table_content b
@@ -78,7 +78,7 @@ given_up_alike : TableLaws → (spi : Option ℕ) (old other a b : Database) →
 given_up_alike laws None old other a b same is also = ap table_content is ∙ same ∙ sym (ap table_content also)
 given_up_alike laws (Some spi) old other a b same is also = laws.released old other a b spi same is also
 
--- an end after an exchange of CREATE_CHILD_SA, or a child, or neither
+-- an end after an exchange of CREATE_CHILD_SA, or a Child SA, or neither
 pub one_further_end : TableLaws → (closing : Bool) (spi : Option ℕ) (pair : Option Pair) (moment : ℕ) (child number : Option ℕ) (old other a b : Association) (table another a_table b_table : Database)
     → association_content old ≡ association_content other → table_content table ≡ table_content another
     → FurtherIf closing spi pair old table moment child a a_table → FurtherIf closing spi pair other another moment number b b_table → SameConclusion child number a b a_table b_table

@@ -1,4 +1,4 @@
--- What a message does to its association and to the table is determined, but for room.
+-- What a message does to its IKE SA and to the table is determined, but for spare capacity.
 use Rattle.std.proofs.Common.{◌≡◌, ◌==◌, ℕ, Bool, true, false, List, Option, Some, None, MatchBool, refl, sym, ap, subst, ◌∙◌}
 use Rattle.std.specs.FinMap as map
 use Rattle.base.specs.Octets.{Octets}
@@ -325,7 +325,7 @@ module _ (laws : Laws) (meaning : Meaning) (setup : Setup) (old other : Associat
         table = over.table;
       }
 
-  -- ---- what is passed over
+  -- ---- what is dropped
 
   one_passing : (e f : Effect) (a b : Association) (a_table b_table : Database) → e ≡ f → IsPassedOver old table a a_table → IsPassedOver other another b b_table → SameEnd e f a b a_table b_table
   one_passing e f a b a_table b_table effects is also = record {
@@ -393,7 +393,7 @@ module _ (meaning : Meaning) (setup : Setup) (old : Association) (table : Databa
   repeated_is reply (effect.Counted s) is = absurd is
 
 module _ (meaning : Meaning) (setup : Setup) (number : ℕ) (plain : Plain) (old : Association) (table : Database) (new : Association) (new_table : Database) where
-  -- by the exchange, at an established association
+  -- by the exchange, at an established IKE SA
   abbrev pub FurtherDone : Bool → Effect → Type 0
   FurtherDone true e = Informs meaning setup number plain e old table new new_table
   FurtherDone false e = AnswersChild meaning setup number plain e old table new new_table
@@ -404,8 +404,8 @@ module _ (meaning : Meaning) (setup : Setup) (number : ℕ) (plain : Plain) (old
   further_is false (effect.Replied s) is = record { answered = s; is = refl; answers = is }
   further_is false e is = absurd is
 
-  -- by the phase: a half-open association answers, an established one goes by the exchange, any other
-  -- passes the request over
+  -- by the phase: a half-open IKE SA answers, an established one goes by the exchange, any other drops the
+  -- request
   abbrev pub RequestDone : Phase → ℕ → Effect → Type 0
   RequestDone (phase.HalfOpen opened) exchange e = Replies meaning setup number plain e old table new new_table
   RequestDone (phase.Established keys) exchange e = FurtherDone (exchange == INFORMATIONAL) e

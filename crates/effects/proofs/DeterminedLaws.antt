@@ -68,7 +68,7 @@ pub record InitLaws : Type 0 where
   pub answer : (cipher : Cipher) (group : ℕ) (public_value : Octets → Octets) (shared_secret : Octets → Octets → Option Octets) (offer : OfferView) (spi_i : ℕ) (fresh : Fresh) (a b : Agreed)
       → IsAnswer cipher group public_value shared_secret offer spi_i fresh a → IsAnswer cipher group public_value shared_secret offer spi_i fresh b → a ≡ b
 
--- of IKE_AUTH and its child
+-- of IKE_AUTH and its Child SA
 pub record AuthLaws : Type 0 where
   pub judgement : (accepts : Accepts) (peer : Identity) (what : ProvingView) (payloads : List Payload) (one other : AuthJudgement)
       → IsAuthJudgement accepts peer what payloads one → IsAuthJudgement accepts peer what payloads other → one ≡ other
@@ -79,7 +79,7 @@ pub record AuthLaws : Type 0 where
   pub accepted : (setting : Setting) (asked : Asked) (answer : List Payload) (a b : Pair) → IsAcceptedChild setting asked answer a → IsAcceptedChild setting asked answer b → a ≡ b
   pub acceptable : (setting : Setting) (asked : Asked) (answer : List Payload) (pair : Pair) → IsAcceptedChild setting asked answer pair → ¬ IsUnacceptable asked answer
 
--- of the peer's request numbers
+-- of the Message IDs of the peer's requests
 pub record IncomingLaws : Type 0 where
   pub prepared : (old new : PeerRequests) → HasSameRequests old new → incoming_content new ≡ incoming_content old
   pub taken : (old other a b : PeerRequests) (n : ℕ) (reply : Octets) → incoming_content old ≡ incoming_content other → TakesRequest old n reply a → TakesRequest other n reply b
@@ -95,7 +95,7 @@ pub record OutgoingLaws : Type 0 where
   pub replaced : (old other a b : OwnRequests Request) (n : ℕ) (was were is : Request) → outgoing_content old ≡ outgoing_content other → ReplacesRequest old n was is a → ReplacesRequest other n were is b
       → (was ≡ were) × (outgoing_content a ≡ outgoing_content b)
 
--- of tables, and of an association's end
+-- of tables, and of an IKE SA's end
 pub record TableLaws : Type 0 where
   pub prepared : (old new : Database) → IsAsBefore old new → table_content new ≡ table_content old
   pub released : (old other a b : Database) (spi : ℕ) → table_content old ≡ table_content other → Releases old spi a → Releases other spi b → table_content a ≡ table_content b
@@ -109,14 +109,14 @@ pub record TableLaws : Type 0 where
       → Closes old old_table moment a a_table → Closes other other_table moment b b_table
       → (association_content a ≡ association_content b) × (table_content a_table ≡ table_content b_table)
 
--- of further children
+-- of additional Child SAs
 pub record FurtherChildLaws : Type 0 where
   pub decided : (setup : Setup) (ike : ℕ) (keys : KeyRecord) (table other_table : Database) (deleting : Bool) (plain : Plain) (one other : Decision)
       → table_content table ≡ table_content other_table → DecidesFurther setup ike keys table deleting plain one → DecidesFurther setup ike keys other_table deleting plain other → one ≡ other
   pub concluded : (blocks ike : ℕ) (keys : KeyRecord) (asked : Asked) (own_nonce : Octets) (plain : Plain) (one other : Conclusion)
       → Concludes blocks ike keys asked own_nonce plain one → Concludes blocks ike keys asked own_nonce plain other → one ≡ other
 
--- of what a message is to its association
+-- of what a message is to its IKE SA
 pub record ReceptionLaws : Type 0 where
   pub one : (plain_of : Opening) (a : Association) (octets : Octets) (m : Message) (one other : Reception) → IsReceived plain_of a octets m one → IsReceived plain_of a octets m other → one ≡ other
   pub by_content : (plain_of : Opening) (a b : Association) (octets : Octets) (m : Message) (reception : Reception) → association_content a ≡ association_content b

@@ -1,5 +1,5 @@
--- How an initiator goes on by the response to IKE_SA_INIT is determined, and how associations begin, but
--- for room.
+-- How an initiator goes on by the response to IKE_SA_INIT is determined, and how IKE SAs begin, but for spare
+-- capacity.
 use Rattle.std.proofs.Common.{◌≡◌, ◌+◌, ℕ, Option, Some, None, refl, sym, ap, subst, ◌∙◌}
 use Rattle.std.specs.Borrow.{Bor}
 use Rattle.std.specs.FinMap as map
@@ -48,7 +48,7 @@ pub one_issue : OutgoingLaws → (old other a b : OwnRequests Request) (request 
 one_issue laws old other a b request same is also =
     laws.issued is.ready also.ready a b request old.next other.next (laws.prepared old is.ready is.prepared ∙ same ∙ sym (laws.prepared other also.ready also.prepared)) is.issued also.issued
 
--- ---- associations as they begin
+-- ---- IKE SAs as they begin
 
 begun_alike : (serial : ℕ) (child : AskedChildView) (a b : Beginning) → outgoing_content a.outgoing ≡ outgoing_content b.outgoing → a.spi_i ≡ b.spi_i → a.secret ≡ b.secret → a.nonce ≡ b.nonce
     → association_content (begun serial a child) ≡ association_content (begun serial b child)

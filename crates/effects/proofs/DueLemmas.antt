@@ -1,5 +1,4 @@
--- A message leaves nothing of its association due that was not due before: what it makes is of its own
--- moment.
+-- A message leaves nothing of its IKE SA due that was not due before: what it makes is of its own time.
 use Rattle.std.proofs.Common.{◌≡◌, ◌+◌, ◌<◌, ◌≤◌, ℕ, nat_le, length, Bool, true, false, Option, arith, ap, inl, inr, refl, subst, sym, ◌∙◌, List}
 use Rattle.std.proofs.lemmas.Bool.Decides.{nat_tests}
 use Rattle.std.specs.FinMap as map
@@ -58,7 +57,7 @@ new_waits octets asked now = (omega arith, omega arith, omega arith)
 all_wait : (now : ℕ) (a : Association) → IsInTime now a → AllWait now a.outgoing
 all_wait now a is = λ number r there. (is.nothing_due.none_due number r there, is.begun.sent number r there, is.begun.often number r there)
 
--- of what an association is made, as far as moments go
+-- of what an IKE SA is made, as far as times go
 by_parts : (now : ℕ) (a : Association) → is_over now a.phase ≡ false → began a.phase ≤ now → AllWait now a.outgoing → IsInTime now a
 by_parts now a held since waits =
     record {
@@ -139,7 +138,7 @@ pub taken_timely : ClosingLaw → (meaning : Meaning) (setup : Setup) (old : Ass
 taken_timely closing meaning setup old table octets m e new new_table timely is =
     way_timely closing meaning setup old table octets m e new new_table timely (way_of meaning setup old table octets m e new new_table is)
 
--- ---- as an association begins, and asks
+-- ---- as an IKE SA begins, and asks
 
 pub begun_timely : (cipher : Cipher) (group : ℕ) (public_value : Octets → Octets) (fresh : Fresh) (moment serial : ℕ) (beginning : Beginning) (child : AskedChildView)
     → Begins cipher group public_value fresh moment beginning → IsInTime moment (begun serial beginning child)

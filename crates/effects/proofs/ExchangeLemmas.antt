@@ -53,7 +53,7 @@ identity_exchange old sent m was due waits =
     sym (eqb-true (exchange_of due.request.purpose) m.header.exchange due.exchange_is)
     ∙ ap exchange_of (identity_asked old sent m.header.id due.request was waits due.outstanding)
 
--- by what a child takes at the end that asked for it
+-- by what a Child SA takes at the end that asked for it
 pub wants_asked : (p : Phase) (exchange : ℕ) (d : Database) (f : MemoryFault) → IsForChild p true exchange → f ≢ child.Table → CanWantIn p true exchange d f
 wants_asked p exchange d child.Message kind other = inl refl
 wants_asked p exchange d child.Window kind other = inr (kind, tt)

@@ -1,4 +1,4 @@
--- The SPIs that an association holds for children, as the crate below tells of them.
+-- The SPIs that an IKE SA holds for Child SAs, as the crate below tells of them.
 use Rattle.std.proofs.Common.{◌≡◌, inl, inr, ℕ, None, Some}
 use Rattle.requests.specs.Outgoing.{CountsAnswer, HasSameOwnRequests, IssuesRequest, OwnRequests, ReplacesRequest}
 use Rattle.sadb.specs.Database.{Database, IsReserved}
@@ -8,7 +8,7 @@ use Rattle.association.specs.Purposes.{spi_asked, AwaitsChild}
 use Rattle.association.specs.declared.phase.Association.{Association}
 use Rattle.association.specs.declared.phase.Request.{Request}
 
--- what the crate below says of the SPIs that an association holds
+-- what the crate below says of the SPIs that an IKE SA holds
 pub record HeldFacts : Type 0 where
   pub closed : (old : Association) (table : Database) (moment : ℕ) (new : Association) (new_table : Database) (spi : ℕ) → Closes old table moment new new_table → HoldsSpi new spi → ⊥
   pub preparing : (old new : OwnRequests Request) (number spi : ℕ) → HasSameOwnRequests old new → AwaitsChild new number spi → AwaitsChild old number spi
@@ -18,12 +18,12 @@ pub record HeldFacts : Type 0 where
   pub fewer : (a b : Association) (table new : Database) → ((spi : ℕ) → spi_in b.phase ≡ Some spi → spi_in a.phase ≡ Some spi) → ((number spi : ℕ) → AwaitsChild b.outgoing number spi → AwaitsChild a.outgoing number spi)
       → ((spi : ℕ) → HoldsSpi b spi → IsReserved table spi → IsReserved new spi) → HoldsReserved a table → HoldsReserved b new
 
--- an SPI is held no more as the answer is counted that it was held for
+-- an SPI is held no more as the answer is matched that it was held for
 abbrev pub GivenBack : Type 0
 GivenBack = (a : Association) (table : Database) (number : ℕ) (request : Request) (outgoing : OwnRequests Request) (spi : ℕ)
     → HoldsReserved a table → CountsAnswer a.outgoing number request outgoing → spi_asked request.purpose ≡ Some spi → HoldsSpi (record a { outgoing = outgoing }) spi → ⊥
 
--- what is held after an answer was counted was held before
+-- what is held after an answer was matched was held before
 pub counted_before : HeldFacts → (old : Association) (outgoing : OwnRequests Request) (request : Request) (number spi : ℕ) → CountsAnswer old.outgoing number request outgoing
     → HoldsSpi (record old { outgoing = outgoing }) spi → HoldsSpi old spi
 counted_before facts old outgoing request number spi is (inl its) = inl its

@@ -1,4 +1,4 @@
--- The SPIs that an association holds stay reserved, or are held no more.
+-- The SPIs that an IKE SA holds stay reserved, or are held no more.
 use Rattle.std.specs.FinMap as map
 use Rattle.std.specs.Ordering.{nat_cmp}
 use Rattle.std.proofs.lemmas.Option.{none-some}
@@ -64,14 +64,14 @@ closed_if_none : (ending : Bool) (serials : List ℕ) (a : Association) (table :
 closed_if_none true serials a table moment new new_table none is = ap held_by is.content
 closed_if_none false serials a table moment new new_table none is = ap held_by is.0 ∙ none
 
--- no SPI of the first child comes
+-- no SPI of the first Child SA comes
 abbrev pub KeepsFirst : Association → Association → Type 0
 KeepsFirst old new = (spi : ℕ) → spi_in new.phase ≡ Some spi → spi_in old.phase ≡ Some spi
 
 first_none : (old new : Association) → held_by new ≡ None → KeepsFirst old new
 first_none old new none spi its = absurd (none-some spi (sym none ∙ its))
 
--- no further child comes to be awaited
+-- no additional Child SA comes to be awaited
 abbrev pub KeepsAwaited : Association → Association → Type 0
 KeepsAwaited old new = (number spi : ℕ) → AwaitsChild new.outgoing number spi → AwaitsChild old.outgoing number spi
 
@@ -94,7 +94,7 @@ KeepsReserved old table new new_table = HoldsReserved old table → IsSoundTable
 kept_same : (old : Association) (table : Database) (new : Association) (new_table : Database) → new_table ≡ table → KeepsReserved old table new new_table
 kept_same old table new new_table same holds sound spi held there = subst (λ (d : Database). IsReserved d spi) (sym same) there
 
--- what is held without a first child is no first child's
+-- what is held without a first Child SA is no first child's
 apart_from_first : (old : Association) (table : Database) (new : Association) (spi : ℕ) → held_by new ≡ None → KeepsAwaited old new → HoldsReserved old table → HoldsSpi new spi → spi_in old.phase ≢ Some spi
 apart_from_first old table new spi none awaited holds (inl its) e = none-some spi (sym none ∙ its)
 apart_from_first old table new spi none awaited holds (inr awaits) e = holds.first spi e (record { number = awaits.number; awaits = awaited awaits.number spi awaits.awaits })
@@ -113,7 +113,7 @@ closed_if_reserved facts false serials old a table moment new new_table is holds
 was_kept : (table : Database) (spi : ℕ) → IsSoundTable table → IsReserved table spi → IsKept table spi
 was_kept table spi sound there = record { there = there; given = (sound.reserved_given spi there).before_next }
 
--- ---- what a message leaves of the SPIs that its association holds
+-- ---- what a message leaves of the SPIs that its IKE SA holds
 
 record LeavesSpis (old : Association) (table : Database) (new : Association) (new_table : Database) : Type 0 where
   first : KeepsFirst old new

@@ -1,4 +1,4 @@
--- What an association keeps is short, and its keys stay.
+-- What an IKE SA keeps is short, and its keys stay.
 use Rattle.std.proofs.Common.{◌≡◌, ◌⊎◌, inl, inr, ℕ, ◌+◌, Bool, true, false, List, Option, Some, None, ap, refl, subst, sym, ◌∙◌}
 use Rattle.std.specs.FinMap as map
 use Rattle.std.specs.Ordering.{nat_cmp}
@@ -71,7 +71,7 @@ itself octets = octets
 abbrev pub octets_of : Request → Octets
 octets_of request = request.octets
 
--- ---- one association
+-- ---- one IKE SA
 
 short_as : (a b : Association) → b ≡ a → KeepsShort a → KeepsShort b
 short_as a b same short = subst (λ (x : Association). KeepsShort x) (sym same) short
@@ -86,14 +86,14 @@ established_keys (phase.HalfOpen opened) = refl
 established_keys (phase.Established keys) = refl
 established_keys (phase.Closed keys at) = refl
 
--- an association that IKE_AUTH established keeps no reply beside those by number
+-- an IKE SA that IKE_AUTH established keeps no reply beside those by Message ID
 none_first : (p : Phase) (keys : KeyRecord) → established_of p ≡ phase.Established keys → (reply : Octets) → kept_reply (established_of p) ≡ Some reply → IsShort reply
 none_first p keys was reply is = absurd (some_none reply (sym (ap kept_reply was) ∙ is))
 
 closed_first : (keys : Option KeyRecord) (at : ℕ) (reply : Octets) → kept_reply (phase.Closed keys at) ≡ Some reply → IsShort reply
 closed_first keys at reply is = absurd (some_none reply is)
 
--- what is left of an association when IKE_AUTH is done
+-- what is left of an IKE SA when IKE_AUTH is done
 record IsDone (a : Association) (new : Association) : Type 0 where
   short : AllShort itself a.incoming.kept → AllShort octets_of a.outgoing.outstanding → KeepsShort new
   keys : keys_in new.phase ≡ keys_in a.phase
@@ -176,7 +176,7 @@ repeated_leaves facts meaning old table octets m reply new new_table is =
       keyed = keys_from new.phase keyed.0 (same ∙ keyed.1);
     }
 
--- one more reply is kept
+-- one more response is cached
 taken_short : (old ready new : PeerRequests) (number : ℕ) (reply : Octets) → IsShort reply → HasSameRequests old ready → TakesRequest ready number reply new
     → AllShort itself old.kept → AllShort itself new.kept
 taken_short old ready new number reply short prepared taken before = λ n kept there.
@@ -189,7 +189,7 @@ counted_short old number request new is before =
     same_short octets_of (map.remove old.outstanding number) new.outstanding (ap (λ (r : OwnRequests Request). r.outstanding) is.content)
     (remove_short octets_of old.outstanding number before)
 
--- a request that takes effect
+-- a request that is processed
 replied_leaves : (old : Association) (ready incoming : PeerRequests) (number : ℕ) (answered : Answered) (new : Association) (keys : KeyRecord) → keys_in old.phase ≡ Some keys → IsShort answered.octets
     → HasSameRequests old.incoming ready → TakesRequest ready number answered.octets incoming → IsDone (record old { incoming = incoming }) new → Leaves (effect.Replied answered) old new
 replied_leaves old ready incoming number answered new keys are limit prepared taken done =
@@ -201,7 +201,7 @@ replied_leaves old ready incoming number answered new keys are limit prepared ta
       keyed = keys_from new.phase keys (done.keys ∙ are);
     }
 
--- a response that is counted
+-- a response that is matched
 counted_leaves : (old : Association) (number : ℕ) (request : Request) (outgoing : OwnRequests Request) (ended : Ended) (new : Association) (keys : KeyRecord) → keys_in old.phase ≡ Some keys
     → CountsAnswer old.outgoing number request outgoing → IsDone (record old { outgoing = outgoing }) new → Leaves (effect.Counted ended) old new
 counted_leaves old number request outgoing ended new keys are counted done =
@@ -239,7 +239,7 @@ later_counted_leaves setup old m ended new d =
     counted_leaves old m.header.id d.request d.outgoing ended new d.keys (ap keys_in d.was) d.counted
     (closed_if_done ended.closed d.ends.serials (record old { outgoing = d.outgoing }) d.ends.before setup.moment new d.ends.after d.keys d.was d.ends.is)
 
--- an association that waits for the response to IKE_SA_INIT has no keys
+-- an IKE SA that waits for the response to IKE_SA_INIT has no keys
 no_keys : (old : Association) (p : Phase) (sent : InitSent) (keys : KeyRecord) → old.phase ≡ phase.InitSent sent → keys_in old.phase ≡ Some keys → keys_in p ≡ Some keys
 no_keys old p sent keys was is = absurd (some_none keys (sym (ap keys_in was) ∙ is))
 

@@ -1,4 +1,4 @@
--- Which child comes of IKE_AUTH or CREATE_CHILD_SA, and of which payloads.
+-- Which Child SA comes of IKE_AUTH or CREATE_CHILD_SA, and of which payloads.
 use Rattle.std.proofs.Common.{◌≡◌, ◌≤◌, length, inl, inr, ◌<◌, ◌^◌, ◌∷◌, [], ℕ, cond, Bool, true, false, List, Option, Some, None, ap, refl, subst, sym, ◌∙◌, arith, ◌⊎◌, ◌+◌}
 use Rattle.std.specs.Cmp.{nat_cmp_total, unsigned_tied}
 use Rattle.std.specs.FinMap as map
@@ -91,7 +91,7 @@ use Rattle.effects.proofs.PayloadLemmas.{answer_has, request_has}
 use Rattle.effects.proofs.SpiLemmas.{pairs_left}
 use Rattle.effects.proofs.WayLemmas.{answered_further, answered_later, counted_further, counted_later, pair_made, way_of, AnsweredAuth, AnsweredFurther, CountedAuth, CountedFurther, FurtherIf, WasIdentified, Way}
 
--- what the crates below say of children, and of what a message is
+-- what the crates below say of Child SAs, and of what a message is
 pub record ChildFacts : Type 0 where
   pub made : (setting : Setting) (extended : Bool) (entries : List Entry) (table : Database) (offer : ChildPayloads) (made : Made) (request reply : List Payload)
       → IsMadeChild setting extended entries table offer made → only_sa request ≡ Some offer.proposals → HasChildPayloads reply made.payloads → IsChild Responder setting.keys request reply made.pair
@@ -113,7 +113,7 @@ pub record ChildFacts : Type 0 where
   pub effective : (plain_of : Opening) (a : Association) (octets : Octets) (m : Message) (plain : Plain) → IsReceived plain_of a octets m (TakesEffect plain) → IsEffective plain_of a octets m plain
   pub answering : (plain_of : Opening) (a : Association) (octets : Octets) (m : Message) (plain : Plain) → IsReceived plain_of a octets m (Answers plain) → IsAnswering plain_of a octets m plain
 
--- what is known of further children
+-- what is known of additional Child SAs
 pub record FurtherFacts : Type 0 where
   pub made : (setup : Setup) (ike : ℕ) (keys : KeyRecord) (table : Database) (deleting : Bool) (plain : Plain) (made : Made) (request : List Payload)
       → DecidesFurther setup ike keys table deleting plain (decided.Made made) → SpellsChain plain.first request plain.octets
@@ -140,7 +140,7 @@ pub record FurtherFacts : Type 0 where
 inserted_here : {T : Type 0} (m : map.FinMap nat_cmp T) (k : ℕ) (v : T) → map.get (map.insert m k v) k ≡ Some v
 inserted_here m k v = map.get-insert nat_cmp_total m k v k ∙ ap (λ b. cond b (Some v) (map.get m k)) (unsigned_tied k k ∙ eq-eqb k k refl)
 
--- a pair came under the next serial
+-- an SA pair came under the next serial
 record HasAdded (old : Database) (pair : Option Pair) (serial : ℕ) (new : Database) : Type 0 where
   one : Pair
   is : pair ≡ Some one
@@ -179,7 +179,7 @@ child_adds old spi pair child serial new e is = absurd is
 
 -- ---- what IKE_AUTH comes to
 
--- the association is established, with a child
+-- the IKE SA is established, with a Child SA
 record HasChild (a : Association) (table : Database) (o : Outcome) (serial : ℕ) (new : Association) (new_table : Database) : Type 0 where
   pair : Pair
   window : ℕ
@@ -202,7 +202,7 @@ concluded_child setup a table (outcome.Establishes pair window) child serial new
       there = added.there;
     }
 
--- the pair under its serial
+-- the SA pair under its serial
 abbrev pub with_serial : ℕ → Pair → Pair
 with_serial serial pair = record pair { serial = serial }
 
@@ -233,7 +233,7 @@ child_brought meaning setup old table octets m e serial keys pair new new_table 
 
 -- ---- at the responder
 
--- the decision makes this child
+-- the decision makes this Child SA
 record DecidesChild (accepts : Accepts) (setup : Setup) (ike : ℕ) (opened : HalfOpen) (table : Database) (plain : Plain) (d : Decision) (pair : Pair) : Type 0 where
   request : List Payload
   read : SpellsChain plain.first request plain.octets
@@ -315,7 +315,7 @@ replied_makes facts meaning setup old table octets m answered serial new new_tab
 
 -- ---- at the initiator
 
--- the payloads that were read make this child
+-- the payloads that were read make this Child SA
 record AcceptsChild (setup : Setup) (ike : ℕ) (sent : AuthSent) (plain : Plain) (pair : Pair) : Type 0 where
   reply : List Payload
   read : SpellsChain plain.first reply plain.octets
@@ -395,7 +395,7 @@ still_further role keys request reply serial pair is =
       child = still_child role (child_keys keys.sk_d is.nonce_i is.nonce_r) request reply serial pair is.child;
     }
 
--- the association stays as it is, with a child
+-- the IKE SA stays as it is, with a Child SA
 record GivesChild (pair : Option Pair) (a : Association) (table : Database) (serial : ℕ) (new : Association) (new_table : Database) : Type 0 where
   one : Pair
   is : pair ≡ Some one
@@ -424,7 +424,7 @@ made_by_conclusion conclusion.Closes pair e = absurd cc
 made_by_conclusion (conclusion.Made made) pair e = ap (λ (p : Pair). conclusion.Made p) (same_pair made pair e)
 made_by_conclusion conclusion.NoChild pair e = absurd cc
 
--- what a request asked for, of which a child is made
+-- what a request asked for, of which a Child SA is made
 record AsksForMade (plain : Plain) (deleting : Bool) : Type 0 where
   request : List Payload
   read : SpellsChain plain.first request plain.octets
@@ -592,7 +592,7 @@ pub asks_for_child : (meaning : Meaning) (setup : Setup) (old : Association) (ta
 asks_for_child meaning setup old table octets m next new new_table is =
     identified_asks meaning setup old table octets m next new new_table (way_of meaning setup old table octets m (effect.AsksAuth next) new new_table is)
 
--- so does an end for a further one
+-- so does an end for an additional one
 pub asks_further : (body_of : Keys → Octets → Octets → Octets → Octets) (setup : Setup) (local remote : Selector) (old : Association) (table : Database) (octets : Octets) (new : Association) (new_table : Database)
     → AsksForFurther body_of setup local remote old table octets new new_table → AsksForFurtherChild body_of setup old.outgoing.next octets new
 asks_further body_of setup local remote old table octets new new_table is =
@@ -609,7 +609,7 @@ asks_further body_of setup local remote old table octets new new_table is =
       is = refl;
     }
 
--- ---- who waits for a child waited for it before, or asks for it now
+-- ---- who waits for a Child SA waited for it before, or asks for it now
 
 closed_waits : (keys : Option KeyRecord) (at : ℕ) (sent : AuthSent) → phase.Closed keys at ≡ phase.AuthSent sent → ⊥
 closed_waits keys at sent e = cc
@@ -662,7 +662,7 @@ pub waits_for_child : (meaning : Meaning) (setup : Setup) (old : Association) (t
 waits_for_child meaning setup old table octets m e new new_table sent waits is =
     way_waits meaning setup old table octets m e new new_table sent waits (way_of meaning setup old table octets m e new new_table is)
 
--- ---- and no message changes which child it asked for
+-- ---- and no message changes which Child SA it asked for
 
 concluded_asks : (p : Phase) (child : AskedChildView) → is_concluded p ≡ true → first_asked p ≡ Some child → ⊥
 concluded_asks (phase.InitSent sent) child is asks = absurd cc

@@ -1,4 +1,4 @@
--- A message makes the moves that are stated, from what an association was to what it is.
+-- A message makes the moves that are stated, from what an IKE SA was to what it is.
 use Rattle.std.proofs.Common.{◌≡◌, ◌≢◌, ◌⊎◌, ◌==◌, inl, inr, ◌+◌, ◌≤◌, ◌^◌, ◌∷◌, [], ℕ, Bool, true, false, cond, List, Option, Some, None, length, arith, ap, refl, subst, sym, max, ◌∙◌, if◌then◌else◌}
 use Rattle.std.proofs.lemmas.Bool.{eqb-true}
 use Rattle.std.proofs.lemmas.Bool.Decides.{leb_tells}
@@ -213,7 +213,7 @@ established_open (phase.HalfOpen opened) = refl
 established_open (phase.Established keys) = refl
 established_open (phase.Closed keys at) = refl
 
--- what is asked of an association so that IKE_AUTH can be done: its windows, and whose request it is
+-- what is asked of an IKE SA so that IKE_AUTH can be done: its windows, and whose request it is
 record AwaitsWindows (setup : Setup) (role : Role) (number : ℕ) (a : Association) (o : Outcome) : Type 0 where
   role_is : a.role ≡ role
   number_is : number ≡ 1
@@ -249,7 +249,7 @@ concluded_ends setup role number a keys table (outcome.Establishes pair window) 
 
 -- ---- a request, and a response
 
--- what is fresh beside the request of IKE_SA_INIT has the number 1
+-- what is fresh beside the request of IKE_SA_INIT has Message ID 1
 fresh_first : (room number : ℕ) → IsFreshRequest (record after_number_0 { room = room }) number → number ≡ 1
 fresh_first room number fresh =
     let has : HasNumber after_number_0.in_effect 0 = inserted set.empty 0 in
@@ -391,7 +391,7 @@ pub message_moves : Windows → (meaning : Meaning) (setup : Setup) (old : Assoc
     → IsSoundlyHeld old → IsConfig setup.config → TakesMessage meaning setup old table octets m e new new_table → Lead (moves_of m.header.id (keys_in new.phase) e) (ledger old) (ledger new)
 message_moves windows meaning setup old table octets m e new new_table held config is = way_moves windows meaning setup old table octets m e new new_table held config (way_of meaning setup old table octets m e new new_table is)
 
--- ---- an order, and the end
+-- ---- a command, and the end
 
 pub requested_moves : (body_of : Keys → Octets → Octets → Octets → Octets) (setup : Setup) (old : Association) (octets : Octets) (new : Association)
     → SendsRequest body_of setup old octets new → Lead (Issue old.outgoing.next octets ∷ []) (ledger old) (ledger new)
@@ -431,7 +431,7 @@ closing_moves gone now old new keys held are is =
     let ends = closed_ends old.role asked.number old keys now new are is_open is.requests is.content in
     from_keys (Close ∷ []) old keys (ledger new) are (Some ends.0, ends.2, ends.1)
 
--- one that is over is closed, or half open
+-- one that is over is closed, or half-open
 over_phase : (now : ℕ) (p : Phase) → is_over now p ≡ true → (is_closed p ≡ true) ⊎ IsHalfOpen p
 over_phase now (phase.InitSent sent) over = absurd cc
 over_phase now (phase.AuthSent sent) over = absurd cc
@@ -439,7 +439,7 @@ over_phase now (phase.HalfOpen opened) over = inr (record { opened = opened; is 
 over_phase now (phase.Established keys) over = absurd cc
 over_phase now (phase.Closed keys at) over = inl refl
 
--- what is half open is as it was made
+-- what is half-open is as it was made
 still_first : (a : Association) (keys : KeyRecord) → is_closed a.phase ≡ false → ((n : ℕ) → octets_out a.outgoing n ≡ None) → TookFirstRequest a → ledger_of a keys ≡ first_ledger keys Responder
 still_first a keys is_open none first =
     let out : (n : ℕ) → octets_out a.outgoing n ≡ octets_out none_issued n = λ n. none n ∙ sym (ap (option_map (λ (x : Request). x.octets)) (map.get-empty {X = Request} nat_cmp n)) in

@@ -199,7 +199,7 @@ further_answers facts body_of setup old table number plain answered new new_tabl
 
 -- ---- a message
 
--- an answer to INFORMATIONAL is a notice, deletions, or nothing
+-- an answer to INFORMATIONAL is a Notify payload, deletions, or nothing
 deletions_without : (spis : List ℕ) (proposals : List Proposal) → Contains (deletion_if_any spis) (Sa proposals) → ⊥
 deletions_without [] proposals (k, below, at) = absurd (omega (arith, below))
 deletions_without (spi ∷ others) proposals (zero, below, at) = absurd cc

@@ -1,4 +1,4 @@
--- What is sealed under an association's keys opens as the message that it is.
+-- What is sealed under an IKE SA's keys opens as the message that it is.
 use Rattle.std.proofs.Common.{◌≡◌, ◌⊎◌, inl, inr, ◌==◌, ◌&&◌, ◌||◌, ◌++◌, ◌∷◌, [], ℕ, Bool, true, false, cond, not, List, Option, Some, None, arith, ap, refl, subst, sym, ◌∙◌}
 use Rattle.std.proofs.lemmas.Bool.{eq-eqb}
 use Rattle.std.specs.List.{AllByRecursion}
@@ -252,7 +252,7 @@ pub taken_opens : (meaning : Meaning) (old : Association) (octets : Octets) (m :
     → PutsIntoEffect meaning.plain_of old octets m e new m.header.id → OpensAsMessage meaning.plain_of old (other_role old.role) false m.header.id octets
 taken_opens meaning old octets m e new spelled meant is = peers_opens meaning.plain_of old octets m is.plain false spelled meant is.request (inl is.request) is.opened
 
--- what a response is that is counted
+-- what a response is that is matched
 abbrev pub AnsweringLaw : Type 0
 AnsweringLaw = (plain_of : Opening) (a : Association) (octets : Octets) (m : Message) (plain : Plain) → IsReceived plain_of a octets m (Answers plain) → IsAnswering plain_of a octets m plain
 
@@ -260,7 +260,7 @@ answering_opens : (plain_of : Opening) (a : Association) (octets : Octets) (m : 
     → OpensAsMessage plain_of a (other_role a.role) true m.header.id octets
 answering_opens plain_of a octets m plain spelled meant not_first is = peers_opens plain_of a octets m plain true spelled meant is.due.response (inr not_first) is.opened
 
--- only a response is counted
+-- only a response is matched
 no_further : (informational : Bool) (meaning : Meaning) (setup : Setup) (old : Association) (table : Database) (number : ℕ) (plain : Plain) (ended : Ended) (new : Association) (new_table : Database)
     → DoesAtEstablished informational meaning setup old table number plain (effect.Counted ended) new new_table → ⊥
 no_further true meaning setup old table number plain ended new new_table is = is

@@ -1,4 +1,4 @@
--- The SPIs that an association holds from an order on.
+-- The SPIs that an IKE SA holds from a command on.
 use Rattle.std.proofs.Common.{◌≡◌, inl, inr, ℕ, Option, None, Some, refl, ap, subst, sym, ◌∙◌}
 use Rattle.std.proofs.lemmas.Option.{none-some}
 use Rattle.std.specs.FinMap as map
@@ -30,7 +30,7 @@ use Rattle.effects.proofs.HeldFacts.{HeldFacts}
 none_awaited : (number spi : ℕ) → AwaitsChild none_issued number spi → ⊥
 none_awaited number spi awaits = none-some awaits.request (sym (map.get-empty nat_cmp number) ∙ awaits.outstanding)
 
--- what is issued next asks for no child
+-- what is issued next asks for no Child SA
 issued_next : HeldFacts → (old : OwnRequests Request) (request : Request) (new : OwnRequests Request) (number spi : ℕ) → spi_asked request.purpose ≡ None → IssuesNext old request new
     → AwaitsChild new number spi → AwaitsChild old number spi
 issued_next facts old request new number spi none is awaits =

@@ -1,4 +1,4 @@
--- An SPI that another association holds stays reserved.
+-- An SPI that another IKE SA holds stays reserved.
 use Rattle.std.proofs.Common.{◌≡◌, ◌≢◌, inl, inr, ◌+◌, ◌<◌, ◌||◌, ◌&&◌, ℕ, Bool, true, false, not, Option, Some, None, ap, refl, subst, sym, ◌∙◌, arith, List}
 use Rattle.std.specs.Cmp.{nat_cmp_total, unsigned_tied}
 use Rattle.std.specs.FinSet as set

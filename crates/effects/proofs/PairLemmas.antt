@@ -1,4 +1,4 @@
--- What IKE_AUTH, and an association's end, leave of the pairs.
+-- What IKE_AUTH, and an IKE SA's end, leave of the SA pairs.
 use Rattle.std.proofs.Common.{◌≡◌, ◌≢◌, ◌⊎◌, ◌+◌, ◌≤◌, inl, inr, ℕ, cond, Bool, true, false, All, Contains, List, Option, Some, None, ap, refl, subst, sym, ◌∙◌, arith}
 use Rattle.std.specs.Cmp.{nat_cmp_total, unsigned_tied}
 use Rattle.std.specs.FinMap as map
@@ -61,7 +61,7 @@ same_pair v p e = cc
 
 -- ---- the table's changes
 
--- another table of the same pairs
+-- another table of the same SA pairs
 pub record HasSamePairs (old new : Database) : Type 0 where
   pub start : new.start ≡ old.start
   pub given : old.given ≤ new.given
@@ -152,7 +152,7 @@ child_leaves old between ike (Some spi) (Some pair) (Some serial) new same unuse
 child_leaves old between ike (Some spi) None (Some serial) new same unused is = absurd is
 child_leaves old between ike (Some spi) (Some pair) None new same unused is = absurd is
 
--- what an association's end leaves
+-- what an IKE SA's end leaves
 over_leaves : (a : Association) (old between : Database) (moment : ℕ) (new : Association) (new_table : Database) → HasSamePairs old between → Closes a between moment new new_table → LeavesPairs old a.serial new_table
 over_leaves a old between moment new new_table same is =
     removal_leaves old is.between a.serial new_table (after old between is.between same (spis_same (HoldsSpi a) between is.between is.released)) is.removed
@@ -163,13 +163,13 @@ concluded_leaves setup a old between outcome.Closes child new new_table same unu
 concluded_leaves setup a old between (outcome.Establishes pair window) child new new_table same unused is =
     child_leaves old between a.serial (established_spi a.phase) pair child new_table same unused is.added
 
--- which association a named pair is of
+-- which IKE SA a named SA pair is of
 owned : (pairs : PairMap) (ike : ℕ) (serials : List ℕ) (serial : ℕ) (pair : Pair) → All (BelongsTo pairs ike) serials → Contains serials serial → pair_at pairs serial ≡ Some pair → pair.ike ≡ ike
 owned pairs ike serials serial pair own named there =
     let its = All-contains (BelongsTo pairs ike) serials serial own named in
     ap (λ (p : Pair). p.ike) (same_pair pair its.pair (sym there ∙ its.there)) ∙ its.its
 
--- what the deletion of some pairs leaves
+-- what the deletion of some SA pairs leaves
 named_leaves : (old : Database) (ike : ℕ) (serials : List ℕ) (new : Database) → RemovesOwn ike serials old new → LeavesPairs old ike new
 named_leaves old ike serials new is =
     record {
@@ -245,9 +245,9 @@ further_if_leaves true spi pair a old between moment child new new_table same un
     over_leaves a old is.between moment new new_table (after old between is.between same (given_up_same spi between is.between is.given_up)) is.over
 further_if_leaves false spi pair a old between moment child new new_table same unused is = child_leaves old between a.serial spi pair child new_table same unused is.added
 
--- ---- a pair that comes is told
+-- ---- an SA pair that comes is told
 
--- each pair was there, or is this child
+-- each SA pair was there, or is this Child SA
 abbrev pub ComesTold : Database → Option ℕ → Database → Type 0
 ComesTold old child new = (serial : ℕ) (pair : Pair) → pair_at new.pairs serial ≡ Some pair → (pair_at old.pairs serial ≡ Some pair) ⊎ (child ≡ Some serial)
 

@@ -1,4 +1,4 @@
--- What stands in the messages of IKE_AUTH and CREATE_CHILD_SA: the payloads of the child, and no other SA.
+-- What stands in the messages of IKE_AUTH and CREATE_CHILD_SA: the payloads of the Child SA, and no other SA.
 use Rattle.std.proofs.Common.{◌≡◌, ◌++◌, ◌∷◌, [], ℕ, zero, suc, Bool, true, false, if◌then◌else◌, Contains, List, nat_lt, ap, refl, sym, ◌∙◌, arith}
 use Rattle.base.specs.Octets.{Octets}
 use Rattle.wire.specs.declared.payload.Payload.{Payload}
@@ -63,7 +63,7 @@ told_sa true own_method proof_of own what child window proposals (suc (suc (suc 
 told_sa true own_method proof_of own what child window proposals (suc (suc (suc (suc (suc (suc k))))), below, at) = absurd (omega (arith, below))
 told_sa false own_method proof_of own what child window proposals (suc (suc (suc (suc (suc k)))), below, at) = absurd (omega (arith, below))
 
--- an answer that makes a child has the child's
+-- an answer that makes a Child SA has the child's
 pub answer_sa : (own_method : ℕ) (proof_of : Octets → Octets) (own : Identity) (what : ProvingView) (child : ChildPayloads) (window : ℕ) (proposals : List Proposal)
     → Contains (auth_answer own_method proof_of own what (answered.Payloads child) window) (Sa proposals) → child.proposals ≡ proposals
 answer_sa own_method proof_of own what child window proposals has = told_sa (nat_lt WINDOW_LEAST window) own_method proof_of own what child window proposals has
@@ -77,7 +77,7 @@ told_without true own_method proof_of own what notice window proposals (suc (suc
 told_without true own_method proof_of own what notice window proposals (suc (suc (suc (suc k))), below, at) = absurd (omega (arith, below))
 told_without false own_method proof_of own what notice window proposals (suc (suc (suc k)), below, at) = absurd (omega (arith, below))
 
--- one that makes no child has none
+-- one that makes no Child SA has none
 pub answer_without : (own_method : ℕ) (proof_of : Octets → Octets) (own : Identity) (what : ProvingView) (notice : Notice) (window : ℕ) (proposals : List Proposal)
     → Contains (auth_answer own_method proof_of own what (answered.Notice notice) window) (Sa proposals) → ⊥
 answer_without own_method proof_of own what notice window proposals has = told_without (nat_lt WINDOW_LEAST window) own_method proof_of own what notice window proposals has
@@ -86,7 +86,7 @@ pub notice_without : (notice : Notice) (proposals : List Proposal) → Contains 
 notice_without notice proposals (zero, below, at) = none_is _ proposals refl at
 notice_without notice proposals (suc k, below, at) = absurd (omega (arith, below))
 
--- so has an answer that makes a further child
+-- so has an answer that makes an additional Child SA
 pub further_sa : (child : ChildPayloads) (nonce : Octets) (proposals : List Proposal) → Contains (further_payloads child nonce) (Sa proposals) → child.proposals ≡ proposals
 further_sa child nonce proposals (zero, below, at) = same_sa child.proposals proposals at
 further_sa child nonce proposals (suc zero, below, at) = absurd (none_is _ proposals refl at)

@@ -1,4 +1,4 @@
--- A request of this end at an established association: how long it is, and that it goes out in one way.
+-- A request of this end at an established IKE SA: how long it is, and that it goes out in one way.
 use Rattle.std.proofs.Common.{◌≡◌, ℕ, List, ap, subst, sym, ◌∙◌}
 use Rattle.base.specs.Octets.{Octets}
 use Rattle.base.specs.declared.selector.Selector.{Selector}

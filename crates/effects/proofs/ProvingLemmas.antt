@@ -83,7 +83,7 @@ response_proves facts accepts setup old table number plain ended new new_table k
 
 -- ---- by a message
 
--- what is known of a message that takes effect or answers: it opened
+-- what is known of a message that is processed or answers: it opened
 pub record OpenedFacts : Type 0 where
   pub acceptance : Acceptance
   pub effective : (plain_of : Opening) (a : Association) (octets : Octets) (m : Message) (plain : Plain) → IsReceived plain_of a octets m (TakesEffect plain) → IsEffective plain_of a octets m plain

@@ -1,4 +1,4 @@
--- An SPI that an association gives up is reserved no more.
+-- An SPI that an IKE SA gives up is reserved no more.
 use Rattle.std.proofs.Common.{◌≡◌, ◌≢◌, ◌⊎◌, ◌<◌, ◌||◌, ◌&&◌, inl, inr, ℕ, Bool, true, false, cond, not, Option, Some, None, ap, arith, refl, subst, sym, ◌∙◌, List}
 use Rattle.std.proofs.lemmas.Bool.Decides.{eqb_tells}
 use Rattle.std.proofs.lemmas.Option.{none-some}
@@ -115,7 +115,7 @@ given_up_was : (spi : Option ℕ) (old new : Database) (q : ℕ) → GivesUpSpi 
 given_up_was None old new q is there = (apart_none q, subst (λ (d : Database). IsReserved d q) is there)
 given_up_was (Some spi) old new q is there = (let left = release_was old spi new q is there in (apart_some spi q left.0, left.1))
 
--- what is reserved once an association is closed is none of what it held
+-- what is reserved once an IKE SA is closed is none of what it held
 over_was : (old : Association) (table : Database) (moment : ℕ) (new : Association) (new_table : Database) (q : ℕ)
     → Closes old table moment new new_table → IsReserved new_table q → IsReserved table q × (HoldsSpi old q → ⊥)
 over_was old table moment new new_table q is there = (is.released.reserved q).0 (removal_was is.between old.serial new_table q is.removed there)
@@ -130,7 +130,7 @@ child_asked purpose.Probe q none asked = none-some q asked
 child_asked (purpose.DeleteChild child) q none asked = none-some q asked
 child_asked purpose.DeleteAssociation q none asked = none-some q asked
 
--- a child is awaited on as another request is answered
+-- a Child SA is awaited on as another request is answered
 stays_awaited : (old new : OwnRequests Request) (number : ℕ) (request : Request) (q : ℕ) → CountsAnswer old number request new → spi_asked request.purpose ≢ Some q → AwaitsSpi old q → AwaitsSpi new q
 stays_awaited old new number request q is other awaits =
     let here = awaits.awaits in
@@ -171,7 +171,7 @@ issued_awaited old new request q issued is awaits =
       }
     ]
 
--- before IKE_AUTH is done no further child is awaited
+-- before IKE_AUTH is done no additional Child SA is awaited
 asked_apart : (p : Purpose) (is : Purpose) (q : ℕ) → p ≡ is → spi_asked is ≡ None → spi_asked p ≡ Some q → ⊥
 asked_apart p is q same none asked = none-some q (sym none ∙ sym (ap spi_asked same) ∙ asked)
 
@@ -187,7 +187,7 @@ second_awaits_none a sent q was waits awaits =
     let may = subst (λ p. MayBeOutstanding p awaits.number here.request.purpose) was (waits awaits.number here.request here.outstanding) in
     asked_apart here.request.purpose purpose.Identify q may.1 refl here.reserved
 
--- ---- what becomes of an association
+-- ---- what becomes of an IKE SA
 
 -- what is reserved then was so before, and is held still by the one that held it
 pub record Keeps (a : Association) (table : Database) (new : Association) (new_table : Database) (q : ℕ) : Type 0 where

@@ -1,4 +1,4 @@
--- What a message does to the peer's requests of one association.
+-- What a message does to the peer's requests of one IKE SA.
 use Rattle.std.proofs.Common.{◌≡◌, ◌≢◌, ◌==◌, ◌||◌, ◌⊎◌, inl, inr, ℕ, ◌+◌, ◌≤◌, Bool, true, false, cond, max, Option, Some, None, ap, refl, subst, sym, ◌∙◌, arith, List}
 use Rattle.std.specs.Cmp.{nat_cmp_total, unsigned_tied}
 use Rattle.std.specs.FinMap as map
@@ -85,7 +85,7 @@ some_none x is = cc
 pub yes_no : (b : Bool) → b ≡ true → b ≡ false → ⊥
 yes_no b one other = cc
 
--- ---- what holds of the replies that are kept
+-- ---- what holds of the cached responses
 
 -- the part of it that the peer's requests say alone
 record KeptWell (r : PeerRequests) : Type 0 where
@@ -98,7 +98,7 @@ kept_well a held = record { in_effect = held.in_effect; near = held.near }
 well_as : (a b : PeerRequests) → b ≡ a → KeptWell a → KeptWell b
 well_as a b same well = subst (λ r. KeptWell r) (sym same) well
 
--- a wider window leaves no more behind
+-- with a wider window no more Message IDs lie below it
 well_wider : (r : PeerRequests) (size : ℕ) → r.size ≤ size → KeptWell r → KeptWell (record r { size = size })
 well_wider r size wider well = record {
   in_effect = well.in_effect;
@@ -119,7 +119,7 @@ inserted numbers n = elim (eqb_tells n n) [
 inserted_other : (numbers : NumberSet) (n m : ℕ) → HasNumber numbers m → HasNumber (set.insert numbers n) m
 inserted_other numbers n m has = set.contains-insert nat_cmp_total numbers n m ∙ or_true _ (set.contains numbers m) has
 
--- a number that came is the one that was put in
+-- a Message ID that came is the one that was put in
 pub came : (numbers : NumberSet) (n m : ℕ) → LacksNumber numbers m → HasNumber (set.insert numbers n) m → m ≡ n
 came numbers n m lacks has = elim (eqb_tells m n) [
   | inl (one, same) ↦ same
@@ -142,7 +142,7 @@ well_taken old new number reply well is = record {
   near = λ m octets kept. ((is.kept m octets).0 kept).1;
 }
 
--- ---- what a message leaves of an association
+-- ---- what a message leaves of an IKE SA
 
 -- the peer's window is widened to one of 16 at most
 record BoundsWider (old new : Association) : Type 0 where
@@ -171,7 +171,7 @@ same_leaves laws own old new same = record {
   sound = λ held. subst (λ (x : Association). IsSoundlyHeld x) (sym same) held;
 }
 
--- what is left of an association when its exchange is done: its requests or wider ones, in a phase that is
+-- what is left of an IKE SA when its exchange is done: its requests or wider ones, in a phase that is
 -- concluded
 record Concludes (a new : Association) : Type 0 where
   follows : FollowsIncoming a.incoming new.incoming
@@ -255,7 +255,7 @@ closing_concludes laws false serials a table moment new new_table concluded is =
       issued = λ before. before;
     })
 
--- the window is widened where the association is established
+-- the window is widened where the IKE SA is established
 auth_window : (setup : Setup) (a : Association) (table : Database) (o : Outcome) (child : Option ℕ) (new : Association) (new_table : Database) (keys : KeyRecord)
     → is_concluded a.phase ≡ false → established_of a.phase ≡ phase.Established keys → ConcludesBy setup a table o child new new_table → KeepsWindow setup.config.window a new
 auth_window setup a table outcome.Closes child new new_table keys open_yet was is = inl (ap (λ (x : Association). x.incoming.size) is.over.content)
@@ -312,7 +312,7 @@ peers_from old a new same_phase same (inr widened) = inr (record {
   window = widened.window ∙ ap (max widened.told) same;
 })
 
--- that none is half open
+-- that none is half-open
 concluded_opens : (p : Phase) (opened : HalfOpen) → is_concluded p ≡ true → p ≡ phase.HalfOpen opened → ⊥
 concluded_opens p opened is opens = yes_no (is_concluded p) is (ap is_concluded opens)
 
@@ -346,11 +346,11 @@ window_from own old a new same_phase same (inl kept) = inl (kept ∙ same)
 window_from own old a new same_phase same (inr widened) =
     inr (record { before = ap is_concluded (sym same_phase) ∙ widened.before; after = widened.after; size = widened.size ∙ ap (max own) same })
 
--- the window stays as wide as a request takes effect
+-- the window stays as wide as a request is processed
 pub taken_size : (old ready : PeerRequests) (number : ℕ) (reply : Octets) (new : PeerRequests) → HasSameRequests old ready → TakesRequest ready number reply new → new.size ≡ old.size
 taken_size old ready number reply new prepared taken = taken.size ∙ ap (λ (r : PeerRequests). r.size) prepared.content
 
--- a request took effect
+-- a request was processed
 taken_leaves : (laws : FollowLaws) (own : ℕ) (old : Association) (ready incoming : PeerRequests) (number : ℕ) (reply : Octets) (new : Association)
     → HasSameRequests old.incoming ready → TakesRequest ready number reply incoming → Concludes (with_incoming old incoming) new
     → (is_concluded old.phase ≡ true → new.incoming.size ≡ incoming.size) → KeepsWindow own (with_incoming old incoming) new → BoundsPeersWindow (with_incoming old incoming) new
@@ -366,7 +366,7 @@ taken_leaves laws own old ready incoming number reply new prepared taken done si
       (peers_from old (with_incoming old incoming) new refl refl peers) held;
 }
 
--- a response was counted
+-- a response was matched
 counted_leaves : (laws : FollowLaws) (own : ℕ) (old a new : Association) → a.incoming ≡ old.incoming → a.phase ≡ old.phase → a.role ≡ old.role → a.spi_r ≡ old.spi_r
     → Concludes a new → (is_concluded old.phase ≡ true → new.incoming.size ≡ old.incoming.size) → KeepsWindow own a new → a.outgoing.window ≡ old.outgoing.window → BoundsPeersWindow a new
     → (SuitPhase old.phase old.outgoing.outstanding → SuitPhase (established_of a.phase) a.outgoing.outstanding) → (AreIssued old.outgoing → AreIssued a.outgoing) → Leaves own old new
@@ -406,7 +406,7 @@ init_opens sent opened is = cc
 auth_opens : (sent : AuthSent) (opened : HalfOpen) → phase.AuthSent sent ≡ phase.HalfOpen opened → ⊥
 auth_opens sent opened is = cc
 
--- it waits for a response still, and no reply is kept yet
+-- it waits for a response still, and no response is cached yet
 early_leaves : (laws : FollowLaws) (own : ℕ) (old new : Association) (sent : InitSent) → new.incoming ≡ old.incoming → old.phase ≡ phase.InitSent sent
     → ((opened : HalfOpen) → new.phase ≡ phase.HalfOpen opened → old.phase ≡ phase.HalfOpen opened)
     → (HasKeys new.phase → new.role ≡ Initiator → new.spi_r ≢ 0) → (SuitPhase (phase.InitSent sent) old.outgoing.outstanding → SuitPhase new.phase new.outgoing.outstanding)
@@ -603,7 +603,7 @@ pub stays_sound : FollowLaws → Windows → (meaning : Meaning) (setup : Setup)
     → IsSoundlyHeld old → TakesMessage meaning setup old table octets m e new new_table → IsSoundlyHeld new
 stays_sound laws windows meaning setup old table octets m e new new_table held is = (leaves laws windows meaning setup old table octets m e new new_table is).sound held
 
--- ---- as an association begins, and asks
+-- ---- as an IKE SA begins, and asks
 
 none_kept : (number : ℕ) (reply : Octets) → map.get no_requests.kept number ≡ Some reply → ⊥
 none_kept number reply is = some_none reply (sym (map.get-empty {X = Octets} nat_cmp number) ∙ is)
@@ -663,7 +663,7 @@ requested_sound body_of setup old octets new held is =
       peers = let same = issued_window old.outgoing (new_request octets is.purpose setup.moment) is.outgoing is.issued in omega (arith, same, held.peers);
     })
 
--- ---- which number comes into effect
+-- ---- which Message ID comes into effect
 
 -- what a request was answered by
 record WasTaken (old : Association) (number : ℕ) (reply : Octets) (new : Association) : Type 0 where
@@ -677,7 +677,7 @@ taken_by old ready incoming number reply new prepared taken done = record {
   kept = ap (λ k. map.get k number) done.kept ∙ taken.own_reply;
 }
 
--- a request that was answered took effect, by the exchange that belongs to its phase
+-- a request that was answered was processed, by the exchange that belongs to its phase
 record Taken (old : Association) (m : Message) (e : Effect) (new : Association) : Type 0 where
   admitted : admits old.phase m.header.exchange ≡ true
   answered : Answered
@@ -724,7 +724,7 @@ request_taken laws (phase.Established keys) meaning setup old table m plain e ne
     further_taken laws (m.header.exchange == INFORMATIONAL) meaning setup old table m plain e new new_table (ap (λ (p : Phase). admits p m.header.exchange) was ∙ admitted) is
 request_taken laws (phase.Closed keys at) meaning setup old table m plain e new new_table was admitted is = absurd cc
 
--- ---- nothing but a request puts a number into effect
+-- ---- nothing but a request puts a Message ID into effect
 
 -- some reply went out
 record IsReply (e : Effect) : Type 0 where
@@ -947,7 +947,7 @@ passes_or_takes laws facts meaning setup old table octets m e new new_table is r
     by_kind laws facts meaning setup old table octets m e new new_table is.reception is.received is.done
     (kind_of received.judgement old.phase m.header.exchange (opened_by meaning.plain_of old octets m.payloads) is.reception received.whole)
 
--- a reply goes out to a request that takes effect
+-- a reply goes out to a request that is processed
 pub replied_takes : FollowLaws → ReceptionLaws → (meaning : Meaning) (setup : Setup) (old : Association) (table : Database) (octets : Octets) (m : Message) (answered : Answered) (new : Association) (new_table : Database)
     → TakesMessage meaning setup old table octets m (effect.Replied answered) new new_table → PutsIntoEffect meaning.plain_of old octets m (effect.Replied answered) new m.header.id
 replied_takes laws facts meaning setup old table octets m answered new new_table is =

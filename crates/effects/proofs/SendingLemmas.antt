@@ -1,4 +1,4 @@
--- What is ordered of an established association sends one request.
+-- A command at an established IKE SA sends one request.
 use Rattle.std.proofs.Common.{◌≡◌, inl, inr, ℕ, refl, subst, sym}
 use Rattle.base.specs.Octets.{Octets}
 use Rattle.base.specs.declared.selector.Selector.{Selector}

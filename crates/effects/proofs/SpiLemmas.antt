@@ -1,4 +1,4 @@
--- What a message leaves of an association.
+-- What a message leaves of an IKE SA.
 use Rattle.std.proofs.Common.{◌≡◌, ◌⊎◌, inl, inr, ℕ, ◌+◌, Bool, true, false, Option, Some, None, ap, refl, subst, sym, ◌∙◌, List}
 use Rattle.base.specs.Octets.{Octets}
 use Rattle.wire.specs.declared.message.Message.{Message}
@@ -40,7 +40,7 @@ use Rattle.effects.specs.declared.taking.Effect.TheVariants as effect
 use Rattle.effects.proofs.PairLemmas.{answer_unused, closed_if_leaves, concluded_leaves, end_unused, further_if_leaves, further_unused, itself_same, made_unused, room_same, same_leaves, HasSamePairs}
 use Rattle.effects.proofs.WayLemmas.{answered_further, answered_later, counted_further, counted_later, pair_made, way_of, AnsweredFurther, CountedFurther, CountedInformational, EndsOrStays, WasAsked, WasIdentified, Way}
 
--- a message that is passed over, or comes again, changes nothing
+-- a message that is dropped, or comes again, changes nothing
 abbrev pub Idle : Effect → Association → Database → Association → Database → Type 0
 Idle (effect.Refused fault) old table new new_table = IsPassedOver old table new new_table
 Idle (effect.Repeated octets) old table new new_table = IsPassedOver old table new new_table

@@ -1,4 +1,4 @@
--- What a response does, by the call that counted it.
+-- What a response does, by the call that matched it.
 use Rattle.std.proofs.Common.{arith, ◌≡◌, ◌≢◌, inl, inr, ℕ, Bool, true, false, Option, Some, None, ap, refl, subst, sym, ◌∙◌}
 use Rattle.std.specs.FinMap as map
 use Rattle.std.proofs.lemmas.Bool.{eqb-true}
@@ -49,7 +49,7 @@ asks_none old m due other = λ request there.
     ap (λ (r : Request). asks_for_child r.purpose) (same_request request due.request (sym there ∙ due.outstanding))
     ∙ not_further due.request.purpose (λ same. other (sym (awaited_exchange old m due) ∙ same))
 
--- what waits at an established association is not that of IKE_AUTH
+-- what waits at an established IKE SA is not that of IKE_AUTH
 later : (asked : Purpose) (exchange : ℕ) → exchange_of asked ≡ exchange → exchange ≡ IKE_AUTH → IsAskedLater asked → ⊥
 later asked exchange same auth (inl is) = let e : INFORMATIONAL ≡ IKE_AUTH = sym is ∙ same ∙ auth in omega arith
 later asked exchange same auth (inr is) = let e : CREATE_CHILD_SA ≡ IKE_AUTH = sym is ∙ same ∙ auth in omega arith
@@ -62,7 +62,7 @@ not_established old m due waits auth is =
 not_sent : (old : Association) (m : Message) → IsAwaited old m → SuitPhase old.phase old.outgoing.outstanding → m.header.exchange ≢ IKE_AUTH → ¬ IsAuthSent old.phase
 not_sent old m due waits other is = other (identity_exchange old is.sent m is.is due waits)
 
--- what belongs to no phase that waits is passed over
+-- what belongs to no phase that waits is dropped
 passed_over : (meaning : Meaning) (setup : Setup) (p : Phase) (old : Association) (table : Database) (number : ℕ) (plain : Plain) (new : Association) (new_table : Database)
     → ¬ IsAuthSent p → ¬ IsEstablished p → new ≡ old → new_table ≡ table → DoesResponse meaning setup p old table number plain (effect.Refused WrongPhase) new new_table
 passed_over meaning setup (phase.InitSent sent) old table number plain new new_table not_sent not_established same same_table = (refl, record { association = same; pairs = same_table })

@@ -1,4 +1,4 @@
--- A pair that comes by a message is the child that its effect tells.
+-- An SA pair that comes by a message is the Child SA that its effect tells.
 use Rattle.std.proofs.Common.{◌≡◌, ◌⊎◌, inl, inr, ℕ, Some, None}
 use Rattle.base.specs.Octets.{Octets}
 use Rattle.wire.specs.declared.message.Message.{Message}

@@ -115,7 +115,7 @@ issued_put old request new number found is there =
 none_first : (number : ℕ) (request : Request) → map.get {R = nat_cmp} (map.empty {X = Request}) number ≡ Some request → ⊥
 none_first number request there = some_none request (sym (map.get-empty {X = Request} nat_cmp number) ∙ there)
 
--- number 0 alone waits for the response to IKE_SA_INIT
+-- Message ID 0 alone waits for the response to IKE_SA_INIT
 init_number : (old : Association) (sent : InitSent) (number : ℕ) (request : Request) → IsSoundlyHeld old → old.phase ≡ phase.InitSent sent → map.get old.outgoing.outstanding number ≡ Some request → number ≡ 0
 init_number old sent number request held was there = (subst (λ (p : Phase). SuitPhase p old.outgoing.outstanding) was held.waits number request there).0
 
@@ -157,12 +157,12 @@ pub message_waits : (meaning : Meaning) (setup : Setup) (old : Association) (tab
     → IsSoundlyHeld old → TakesMessage meaning setup old table octets m e new new_table → KeepTimers setup.moment (asked_by e) old new
 message_waits meaning setup old table octets m e new new_table held is = way_waits meaning setup old table octets m e new new_table held (way_of meaning setup old table octets m e new new_table is)
 
--- ---- a request for a further child is made by an order alone
+-- ---- a request for an additional Child SA is made by a command alone
 
 none_said : (octets : Octets) → None ≡ Some octets → ⊥
 none_said octets is = cc
 
--- an initiator that waits for a response of the initial exchanges asked for no further child
+-- an initiator that waits for a response of the initial exchanges asked for no additional Child SA
 early_asks : (new : Association) (sent : InitSent) (number : ℕ) (request : Request) → IsSoundlyHeld new → new.phase ≡ phase.InitSent sent → map.get new.outgoing.outstanding number ≡ Some request
     → asks_for_child request.purpose ≡ true → ⊥
 early_asks new sent number request held is there asks =
@@ -257,7 +257,7 @@ pub message_until : (meaning : Meaning) (setup : Setup) (old : Association) (tab
     → IsSoundlyHeld old → TakesMessage meaning setup old table octets m e new new_table → WaitUntil m.header.id e old.outgoing new.outgoing
 message_until meaning setup old table octets m e new new_table held is = way_until meaning setup old table octets m e new new_table held (way_of meaning setup old table octets m e new new_table is)
 
--- ---- since when an association is closed
+-- ---- since when an IKE SA is closed
 
 abbrev ClosesNow : ℕ → Bool → Association → Association → Option KeyRecord → ℕ → Type 0
 ClosesNow moment ending old new keys at = new.phase ≡ phase.Closed keys at → (old.phase ≡ phase.Closed keys at) ⊎ ((at ≡ moment) × (ending ≡ true))
@@ -315,7 +315,7 @@ pub message_closes : (meaning : Meaning) (setup : Setup) (old : Association) (ta
     → TakesMessage meaning setup old table octets m e new new_table → new.phase ≡ phase.Closed keys at → (old.phase ≡ phase.Closed keys at) ⊎ ((at ≡ setup.moment) × ClosesAssociation e)
 message_closes meaning setup old table octets m e new new_table keys at is = way_closes meaning setup old table octets m e new new_table keys at (way_of meaning setup old table octets m e new new_table is)
 
--- ---- as an association asks, and begins
+-- ---- as an IKE SA asks, and begins
 
 pub requested_waits : (body_of : Keys → Octets → Octets → Octets → Octets) (setup : Setup) (old : Association) (octets : Octets) (new : Association) → IsSoundlyHeld old → SendsRequest body_of setup old octets new
     → KeepTimers setup.moment (Some octets) old new

@@ -1,4 +1,4 @@
--- What a message did to an association, by what came of it.
+-- What a message did to an IKE SA, by what came of it.
 use Rattle.std.proofs.Common.{◌≡◌, ◌≢◌, ◌==◌, ◌⊎◌, inl, inr, ℕ, Bool, true, false, List, [], Option, Some, None, arith, refl, subst, sym}
 use Rattle.base.specs.Octets.{Octets}
 use Rattle.wire.specs.Numbers.{CREATE_CHILD_SA, INFORMATIONAL}
@@ -52,7 +52,7 @@ pub record WasRepeated (meaning : Meaning) (old : Association) (table : Database
   pub received : IsReceived meaning.plain_of old octets m (Repeat reply)
   pub same : IsPassedOver old table new new_table
 
--- a request took effect: of IKE_AUTH, of INFORMATIONAL, or of CREATE_CHILD_SA
+-- a request was processed: of IKE_AUTH, of INFORMATIONAL, or of CREATE_CHILD_SA
 pub record AnsweredAuth (meaning : Meaning) (setup : Setup) (old : Association) (table : Database) (octets : Octets) (m : Message) (answered : Answered) (new : Association) (new_table : Database) : Type 0 where
   pub plain : Plain
   pub received : IsReceived meaning.plain_of old octets m (TakesEffect plain)
@@ -70,7 +70,7 @@ pub record AnsweredFurther (meaning : Meaning) (setup : Setup) (old : Associatio
   pub other : (m.header.exchange == INFORMATIONAL) ≡ false
   pub done : AnswersFurther meaning.body_of setup old table m.header.id plain answered new new_table
 
--- a response was counted: to IKE_AUTH, to INFORMATIONAL, or to CREATE_CHILD_SA
+-- a response was matched: to IKE_AUTH, to INFORMATIONAL, or to CREATE_CHILD_SA
 pub record CountedAuth (meaning : Meaning) (setup : Setup) (old : Association) (table : Database) (octets : Octets) (m : Message) (ended : Ended) (new : Association) (new_table : Database) : Type 0 where
   pub plain : Plain
   pub received : IsReceived meaning.plain_of old octets m (Answers plain)
@@ -192,8 +192,8 @@ way_of meaning setup old table octets m e new new_table is = does_way meaning se
 
 -- ---- what an exchange of CREATE_CHILD_SA comes to
 
--- The association ends, and an SPI is given up with those that it holds; or it stays as it is, and a child
--- is added or none.
+-- The IKE SA ends, and an SPI is given up with those that it holds; or it stays as it is, and a Child SA is
+-- added or none.
 pub record EndsHolding (spi : Option ℕ) (a : Association) (table : Database) (moment : ℕ) (child : Option ℕ) (new : Association) (new_table : Database) : Type 0 where
   pub none : child ≡ None
   pub between : Database
@@ -216,7 +216,7 @@ answered_further false None a table moment (Some serial) new new_table is = absu
 answered_further false (Some pair) a table moment None new new_table is = absurd is.1
 answered_further false (Some pair) a table moment (Some serial) new new_table is = record { same = is.0; added = is.1 }
 
--- the pair that is made of a response
+-- the SA pair that is made of a response
 abbrev pub pair_made : Conclusion → Option Pair
 pair_made conclusion.Closes = None
 pair_made (conclusion.Made pair) = Some pair
@@ -230,7 +230,7 @@ counted_further (conclusion.Made pair) spi a table moment child new new_table is
 counted_further conclusion.NoChild spi a table moment child new new_table is =
     subst (λ (c : Option ℕ). StaysWith (Some spi) None a table c new new_table) (sym is.none) (record { same = is.same; added = is.released })
 
--- ---- what an exchange at an established association comes to, as far as the association goes
+-- ---- what an exchange at an established IKE SA comes to, as far as the IKE SA goes
 
 pub record EndsOrStays (closing : Bool) (a : Association) (moment : ℕ) (new : Association) : Type 0 where
   pub serials : List ℕ

@@ -1,4 +1,4 @@
--- The keys of an association are whole when they are derived, and stay so.
+-- The keys of an IKE SA are whole when they are derived, and stay so.
 use Rattle.std.proofs.Common.{◌≡◌, ◌==◌, ℕ, Bool, true, false, Option, Some, None, refl, sym, ap, subst, ◌∙◌, List}
 use Rattle.base.specs.Octets.{Octets}
 use Rattle.wire.specs.Numbers.{INFORMATIONAL}

@@ -45,7 +45,7 @@ pub record OpeningLaws : Type 0 where
   pub effective : (plain_of : Opening) (a : Association) (octets : Octets) (m : Message) (plain : Plain) → IsReceived plain_of a octets m (TakesEffect plain) → IsEffective plain_of a octets m plain
   pub answering : (plain_of : Opening) (a : Association) (octets : Octets) (m : Message) (plain : Plain) → IsReceived plain_of a octets m (Answers plain) → IsAnswering plain_of a octets m plain
 
--- where IKE_AUTH establishes the association, the window is that of the payloads that were read
+-- where IKE_AUTH establishes the IKE SA, the window is that of the payloads that were read
 abbrev TellsBy : Option (List Payload) → Outcome → Type 0
 TellsBy payloads outcome.Closes = Unit {0}
 TellsBy None (outcome.Establishes pair window) = ⊥
@@ -116,7 +116,7 @@ pub keeps_peers : OpeningLaws → (meaning : Meaning) (setup : Setup) (old : Ass
 keeps_peers laws meaning setup old table octets m e new new_table held is =
     way_peers laws meaning setup old table octets m e new new_table held (way_of meaning setup old table octets m e new new_table is)
 
--- ---- where an association comes to be established both windows are widened
+-- ---- where an IKE SA comes to be established both windows are widened
 
 closed_established : (keys : Option KeyRecord) (at : ℕ) (known : KeyRecord) → phase.Closed keys at ≡ phase.Established known → ⊥
 closed_established keys at known e = cc

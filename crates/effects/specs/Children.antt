@@ -1,5 +1,5 @@
--- What a child is at each end, and of which messages it is made: the first one of an IKE SA, and additional
--- ones (RFC 7296 sections 1.2, 1.3.1, 2.9 and 2.17).
+-- What a Child SA is at each end, and of which messages it is made: the first one of an IKE SA, and
+-- additional ones (RFC 7296 sections 1.2, 1.3.1, 2.9 and 2.17).
 use Rattle.std.specs.Prelude.{◌≡◌, ◌⊎◌, ℕ, true, false, Option, Some, None, List}
 use Rattle.std.specs.FinMap as map
 use Rattle.base.specs.Octets.{Octets}
@@ -44,7 +44,7 @@ use Rattle.association.specs.declared.outcome.Answered.{Answered}
 use Rattle.effects.specs.declared.taking.Effect.{Effect}
 use Rattle.effects.specs.declared.taking.Effect.TheVariants as effect
 
--- the first child of an IKE SA, by IKE_AUTH, or an additional one, by CREATE_CHILD_SA
+-- the first Child SA of an IKE SA, by IKE_AUTH, or an additional one, by CREATE_CHILD_SA
 pub data ChildKind : Type 0 where
   First : ChildKind
   Further : ChildKind
@@ -53,13 +53,13 @@ abbrev pub exchange_of_child : ChildKind → ℕ
 exchange_of_child First = IKE_AUTH
 exchange_of_child Further = CREATE_CHILD_SA
 
--- the pair that the end with this role in its exchange has of the child, under the IKE SA's keys
+-- the SA pair that the end with this role in its exchange has of the Child SA, under the IKE SA's keys
 abbrev pub IsChildOf : ChildKind → Role → KeyRecord → List Payload → List Payload → Pair → Type 0
 IsChildOf First role keys request reply pair = IsChild role (first_child_keys keys) request reply pair
 IsChildOf Further role keys request reply pair = IsFurtherChild role keys request reply pair
 
--- A child is new: its IKE SA is established, its pair has the next serial, with no number sent or taken,
--- and no other pair is new.
+-- A Child SA is new: its IKE SA is established, its SA pair has the next serial, with no sequence number sent
+-- or taken, and no other pair is new.
 pub record BringsChild (ike serial : ℕ) (table : Database) (keys : KeyRecord) (pair : Pair) (new : Association) (new_table : Database) : Type 0 where
   pub established : new.phase ≡ phase.Established keys
   pub in_order : serial ≡ table.next
@@ -67,9 +67,9 @@ pub record BringsChild (ike serial : ℕ) (table : Database) (keys : KeyRecord) 
   pub unused : IsUnused ike pair
   pub alone : (other : ℕ) (pair : Pair) → pair_at new_table.pairs other ≡ Some pair → (pair_at table.pairs other ≡ Some pair) ⊎ (other ≡ serial)
 
--- The responder's pair of a child. It is made of the request and of its response under the IKE SA's keys.
--- Its selectors are few, and lie inside those offered and inside one entry that protects. It has ESN only
--- where that is allowed.
+-- The responder's SA pair of a Child SA. It is made of the request and of its response under the IKE SA's
+-- keys. Its selectors are few, and lie inside those offered and inside one entry that protects. It has ESN
+-- only where that is allowed.
 pub record IsAnsweredChild (kind : ChildKind) (setup : Setup) (keys : KeyRecord) (request reply : List Payload) (pair : Pair) : Type 0 where
   pub child : IsChildOf kind Responder keys request reply pair
   pub offer : ChildPayloads
@@ -80,21 +80,21 @@ pub record IsAnsweredChild (kind : ChildKind) (setup : Setup) (keys : KeyRecord)
   pub extension : pair.inbound.association.extended ≡ true → setup.config.extended ≡ true
   pub few : HasFewSelectors pair
 
--- The initiator's pair of a first child: it is made of the response and of whatever request asked for this
--- child, and keeps to what was asked.
+-- The initiator's SA pair of a first Child SA: it is made of the response and of whatever request asked for
+-- this child, and keeps to what was asked.
 pub record IsAskedChild (child : AskedChildView) (keys : KeyRecord) (reply : List Payload) (pair : Pair) : Type 0 where
   pub made : (request : List Payload) → HasChildPayloads request (child_request (asked_of child)) → IsChild Initiator (first_child_keys keys) request reply pair
   pub keeps : KeepsToRequest (asked_of child) pair
   pub few : HasFewSelectors pair
 
--- The pair of the end that asked for an additional child: it is made of the response and of the request
+-- The SA pair of the end that asked for an additional Child SA: it is made of the response and of the request
 -- that asked for this child with this nonce, and keeps to what was asked.
 pub record IsAskedFurther (further : FurtherChild) (keys : KeyRecord) (reply : List Payload) (pair : Pair) : Type 0 where
   pub made : IsFurtherChild Initiator keys (further_payloads (child_request (asked_of further.child)) further.nonce) reply pair
   pub keeps : KeepsToRequest (asked_of further.child) pair
   pub few : HasFewSelectors pair
 
--- the IKE SA under which this end may answer a request for a child, with its keys
+-- the IKE SA under which this end may answer a request for a Child SA, with its keys
 abbrev pub MayAnswer : ChildKind → Phase → KeyRecord → Type 0
 MayAnswer First (phase.HalfOpen opened) keys = opened.keys ≡ keys
 MayAnswer First _ keys = ⊥
@@ -115,8 +115,8 @@ pub record AnswersForChild (kind : ChildKind) (meaning : Meaning) (setup : Setup
   pub sealed : IsSealed meaning.body_of (keys_of old.role keys) setup.fresh.seal (reply_message old (exchange_of_child kind) m.header.id reply) answered.octets
   pub is : IsAnsweredChild kind setup keys request reply pair
 
--- An initiator made its first child: the one that it waited for, by the request with the response's Message
--- ID, of the payloads that the response opened to.
+-- An initiator made its first Child SA: the one that it waited for, by the request with the response's
+-- Message ID, of the payloads that the response opened to.
 pub record EndsWithChild (meaning : Meaning) (old : Association) (octets : Octets) (m : Message) (keys : KeyRecord) (pair : Pair) : Type 0 where
   pub exchange : m.header.exchange ≡ exchange_of_child First
   pub response : m.header.flags.response ≡ true
@@ -132,7 +132,7 @@ pub record EndsWithChild (meaning : Meaning) (old : Association) (octets : Octet
   pub read : SpellsChain plain.first reply plain.octets
   pub is : IsAskedChild sent.child keys reply pair
 
--- An end made an additional child that it asked for: by the request with the response's Message ID, of the
+-- An end made an additional Child SA that it asked for: by the request with the response's Message ID, of the
 -- payloads that the response opened to.
 pub record EndsWithFurther (meaning : Meaning) (old : Association) (octets : Octets) (m : Message) (keys : KeyRecord) (pair : Pair) : Type 0 where
   pub exchange : m.header.exchange ≡ exchange_of_child Further
@@ -157,20 +157,20 @@ MadeBy meaning setup old octets m (effect.Again next) keys pair = ⊥
 MadeBy meaning setup old octets m (effect.AsksAuth next) keys pair = ⊥
 MadeBy meaning setup old octets m (effect.Counted ended) keys pair = EndsWithChild meaning old octets m keys pair ⊎ EndsWithFurther meaning old octets m keys pair
 
--- A message made a child, under this serial.
+-- A message made a Child SA, under this serial.
 pub record MakesChild (meaning : Meaning) (setup : Setup) (old : Association) (table : Database) (octets : Octets) (m : Message) (e : Effect) (serial : ℕ) (new : Association) (new_table : Database) : Type 0 where
   pub keys : KeyRecord
   pub pair : Pair
   pub brings : BringsChild old.serial serial table keys pair new new_table
   pub made : MadeBy meaning setup old octets m e keys pair
 
--- the first child that an initiator waits for, from the request of IKE_SA_INIT on
+-- the first Child SA that an initiator waits for, from the request of IKE_SA_INIT on
 abbrev pub first_asked : Phase → Option AskedChildView
 first_asked (phase.InitSent sent) = Some sent.child
 first_asked (phase.AuthSent sent) = Some sent.child
 first_asked _ = None
 
--- An initiator asked for its first child. The payloads of IKE_AUTH, sealed under its keys and kept as
+-- An initiator asked for its first Child SA. The payloads of IKE_AUTH, sealed under its keys and kept as
 -- request 1, ask for the child that it waits for from then on.
 pub record AsksForChild (meaning : Meaning) (setup : Setup) (octets : Octets) (new : Association) : Type 0 where
   pub sent : AuthSent
@@ -180,10 +180,9 @@ pub record AsksForChild (meaning : Meaning) (setup : Setup) (octets : Octets) (n
   pub sealed : IsSealed meaning.body_of (keys_of new.role sent.keys) setup.fresh.seal (record { header = sent_header new.spi_i new.spi_r IKE_AUTH new.role false 1; payloads = request }) octets
   pub kept : map.get new.outgoing.outstanding 1 ≡ Some (new_request octets Identify setup.moment)
 
--- An end asked for an additional child. The payloads of CREATE_CHILD_SA, sealed under the IKE SA's keys and
--- kept as the request with this Message ID, ask for the child with the nonce that it waits for from then
--- on. The command fixes the child: an SPI, selectors of both sides, the configuration, and this step's
--- nonce.
+-- An end asked for an additional Child SA. The payloads of CREATE_CHILD_SA, sealed under the IKE SA's keys
+-- and kept as the request with this Message ID, ask for the child with the nonce that it waits for from then
+-- on. The command fixes the child: an SPI, selectors of both sides, the configuration, and this step's nonce.
 pub record AsksForFurtherChild (body_of : Keys → Octets → Octets → Octets → Octets) (setup : Setup) (number : ℕ) (octets : Octets) (new : Association) : Type 0 where
   pub keys : KeyRecord
   pub established : new.phase ≡ phase.Established keys

@@ -21,7 +21,7 @@ abbrev pub kept_reply : Phase → Option Octets
 kept_reply (phase.HalfOpen opened) = Some opened.reply
 kept_reply _ = None
 
--- all that can be sent again is short: the kept responses, the outstanding requests, and the response to
+-- all that can be sent again is short: the cached responses, the outstanding requests, and the response to
 -- IKE_SA_INIT
 pub record KeepsShort (a : Association) : Type 0 where
   pub replies : (number : ℕ) (reply : Octets) → map.get a.incoming.kept number ≡ Some reply → IsShort reply
@@ -37,7 +37,7 @@ octets_of_effect (effect.Again octets) = Some octets
 octets_of_effect (effect.AsksAuth octets) = Some octets
 octets_of_effect (effect.Counted ended) = None
 
--- the serial of the child that was made
+-- the serial of the Child SA that was made
 abbrev pub child_in : Effect → Option ℕ
 child_in (effect.Refused fault) = None
 child_in (effect.Repeated octets) = None

@@ -1,4 +1,4 @@
--- What the payloads of a message bring: a child, an answer to an offer, a proof of the peer's identity.
+-- What the payloads of a message bring: a Child SA, an answer to an offer, a proof of the peer's identity.
 use Rattle.std.specs.FinMap as map
 use Rattle.std.specs.Prelude.{◌≡◌, ◌⊎◌, true, ℕ, List, Option, Some}
 use Rattle.base.specs.Octets.{Octets}

@@ -1,4 +1,4 @@
--- The requests of either end: which take effect, what is remembered of them, and how retransmissions are
+-- The requests of either end: which are processed, what is remembered of them, and how retransmissions are
 -- answered.
 use Rattle.std.specs.FinMap as map
 use Rattle.std.specs.Prelude.{◌≡◌, ◌⊎◌, false, true, ℕ, None, Some}

@@ -1,4 +1,4 @@
--- The SPIs that an IKE SA holds for its children.
+-- The SPIs that an IKE SA holds for its Child SAs.
 use Rattle.std.specs.Prelude.{◌+◌, ◌<◌, ◌≡◌, ◌⊎◌, true, ℕ}
 use Rattle.base.specs.Octets.{Octets}
 use Rattle.suite.specs.declared.key_record.KeyRecord.{KeyRecord}

@@ -27,7 +27,7 @@ pub data Move : Type 0 where
   Issue : ℕ → Octets → Move
   -- the response to the request with this Message ID is matched
   Count : ℕ → Move
-  -- the peer's request with this Message ID takes effect, and this is its response
+  -- the peer's request with this Message ID is processed, and this is its response
   TakeEffect : ℕ → Octets → Move
   Close : Move
   Remove : Move
@@ -37,7 +37,7 @@ pub record Ledger : Type 0 where
   pub keys : KeyRecord
   pub role : Role
   pub is_closed : Bool
-  -- the peer's requests: the Message IDs in effect, this end's window, and the kept responses
+  -- the peer's requests: the Message IDs in effect, this end's window, and the cached responses
   pub in_effect : NumberSet
   pub size : ℕ
   pub kept : map.FinMap nat_cmp Octets
@@ -116,7 +116,7 @@ pub record Counts (number : ℕ) (old new : Ledger) : Type 0 where
   pub windows : KeepWindows Initiator number old new
   pub content : new ≡ record old { answered = set.insert old.answered number; outstanding = put old.outstanding number None; size = new.size; window = new.window }
 
--- A request takes effect that did not yet, inside the window. Its response is kept. Of those kept before,
+-- A request is processed that was not yet, inside the window. Its response is cached. Of those kept before,
 -- only those a window below a Message ID in effect are given up (section 2.3).
 pub record TakesEffectOnce (number : ℕ) (reply : Octets) (old new : Ledger) : Type 0 where
   pub is_open : old.is_closed ≡ false
@@ -135,8 +135,7 @@ pub record ClosesLedger (old new : Ledger) : Type 0 where
   pub is_open : old.is_closed ≡ false
   pub content : new ≡ record old { is_closed = true; outstanding = λ number. None }
 
--- It is held no longer, and waits for no response: it is closed, or the responder's that is still half
--- open.
+-- It is held no longer, and waits for no response: it is closed, or the responder's that is still half-open.
 pub record RemovesLedger (old : Ledger) : Type 0 where
   pub waits : (number : ℕ) → old.outstanding number ≡ None
   pub over : (old.is_closed ≡ true) ⊎ (old ≡ first_ledger old.keys Responder)
@@ -173,7 +172,7 @@ moves_of number keys (effect.AsksAuth octets) = makes_and_issues keys octets
 moves_of number keys (effect.Replied answered) = and_closes (TakeEffect number answered.octets) answered.closed
 moves_of number keys (effect.Counted ended) = and_closes (Count number) ended.closed
 
--- a kept response to the request with this Message ID
+-- a cached response to the request with this Message ID
 abbrev pub KeepsReply : Option Ledger → ℕ → Octets → Type 0
 KeepsReply None number reply = ⊥
 KeepsReply (Some l) number reply = map.get l.kept number ≡ Some reply

@@ -1,4 +1,4 @@
--- The peer's requests of one IKE SA: which octets are one, which take effect, and what holds of the kept
+-- The peer's requests of one IKE SA: which octets are one, which are processed, and what holds of the cached
 -- responses (RFC 7296 sections 2.1 to 2.3 and 3.1).
 use Rattle.std.specs.Prelude.{◌≡◌, ◌≢◌, ◌⊎◌, ◌≤◌, ℕ, Bool, true, false, Some, List, max}
 use Rattle.std.specs.FinMap as map
@@ -40,7 +40,7 @@ pub record OpensAs (plain_of : Opening) (a : Association) (octets : Octets) (exc
   pub plain : Plain
   pub opened : opened_by plain_of a octets message.payloads ≡ Some plain
 
--- it takes effect if it comes: its Message ID is not in effect and lies in the window, and its exchange
+-- it is processed if it comes: its Message ID is not in effect and lies in the window, and its exchange
 -- belongs to the phase
 pub record IsNew (plain_of : Opening) (a : Association) (octets : Octets) (number : ℕ) : Type 0 where
   pub exchange : ℕ
@@ -49,7 +49,7 @@ pub record IsNew (plain_of : Opening) (a : Association) (octets : Octets) (numbe
   pub admitted : admits a.phase exchange ≡ true
 
 -- a message that put this Message ID into effect: a new request, which was answered, and its response is
--- kept
+-- cached
 pub record PutsIntoEffect (plain_of : Opening) (old : Association) (octets : Octets) (m : Message) (e : Effect) (new : Association) (number : ℕ) : Type 0 where
   pub request : m.header.flags.response ≡ false
   pub number_is : m.header.id ≡ number
@@ -61,7 +61,7 @@ pub record PutsIntoEffect (plain_of : Opening) (old : Association) (octets : Oct
   pub said : e ≡ effect.Replied answered
   pub kept : map.get new.incoming.kept number ≡ Some answered.octets
 
--- a message that is dropped, or a retransmission, which gets the kept response
+-- a message that is dropped, or a retransmission, which gets the cached response
 abbrev pub IsPassing : Effect → Type 0
 IsPassing (effect.Refused fault) = Unit {0}
 IsPassing (effect.Repeated reply) = Unit {0}

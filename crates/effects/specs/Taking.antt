@@ -88,12 +88,12 @@ abbrev pub AwaitsAuth : Bool → Phase → Type 0
 AwaitsAuth false p = IsHalfOpen p
 AwaitsAuth true p = IsAuthSent p
 
--- IKE_AUTH where it is waited for: it makes a first child
+-- IKE_AUTH where it is waited for: it makes a first Child SA
 pub record IsForFirst (p : Phase) (response : Bool) (exchange : ℕ) : Type 0 where
   pub awaited : AwaitsAuth response p
   pub exchange_is : exchange ≡ IKE_AUTH
 
--- CREATE_CHILD_SA at an established IKE SA: it makes an additional child
+-- CREATE_CHILD_SA at an established IKE SA: it makes an additional Child SA
 pub record IsForFurther (p : Phase) (exchange : ℕ) : Type 0 where
   pub established : IsEstablished p
   pub exchange_is : exchange ≡ CREATE_CHILD_SA
@@ -101,8 +101,8 @@ pub record IsForFurther (p : Phase) (exchange : ℕ) : Type 0 where
 abbrev pub IsForChild : Phase → Bool → ℕ → Type 0
 IsForChild p response exchange = IsForFirst p response exchange ⊎ IsForFurther p exchange
 
--- What making a child takes memory for: a replay window and selectors, and at the end that answers a place
--- in the table, where that has no spare one and could take more pairs. The end that asked reserved its
+-- What making a Child SA takes memory for: a replay window and selectors, and at the end that answers a place
+-- in the table, where that has no spare one and could take more SA pairs. The end that asked reserved its
 -- place as it asked.
 abbrev pub CanTakeOf : Bool → Database → MemoryFault → Type 0
 CanTakeOf response d child.Message = ⊥
@@ -110,18 +110,18 @@ CanTakeOf response d child.Window = Unit {0}
 CanTakeOf response d child.Narrowing = Unit {0}
 CanTakeOf response d child.Table = (response ≡ false) × IsTableRefusal d table.Memory
 
--- a request that takes effect, or a response that is matched
+-- a request that is processed, or a response that is matched
 abbrev pub HasItsEffect : Bool → Opening → Association → Octets → Message → Plain → Type 0
 HasItsEffect false plain_of a octets m plain = IsEffective plain_of a octets m plain
 HasItsEffect true plain_of a octets m plain = IsAnswering plain_of a octets m plain
 
--- a child may be made of the message: it takes effect or is matched, and its exchange can make a child
+-- a Child SA may be made of the message: it is processed or matched, and its exchange can make a child
 pub record CanMakeChild (plain_of : Opening) (a : Association) (octets : Octets) (m : Message) : Type 0 where
   pub plain : Plain
   pub counts : HasItsEffect m.header.flags.response plain_of a octets m plain
   pub kind : IsForChild a.phase m.header.flags.response m.header.exchange
 
--- what there may be no memory for: the message, and what a child takes where one may be made of it
+-- what there may be no memory for: the message, and what a Child SA takes where one may be made of it
 abbrev pub CanWant : Opening → Association → Database → Octets → Message → MemoryFault → Type 0
 CanWant plain_of a d octets m f = (f ≡ child.Message) ⊎ (CanMakeChild plain_of a octets m × CanTakeOf m.header.flags.response d f)
 
@@ -150,7 +150,7 @@ DoesRequest meaning setup (phase.Established keys) exchange old table number pla
 DoesRequest meaning setup p exchange old table number plain (effect.Refused fault) new new_table = (fault ≡ WrongPhase) × IsPassedOver old table new new_table
 DoesRequest meaning setup p exchange old table number plain e new new_table = ⊥
 
--- whether the outstanding request with this Message ID asked for an additional child
+-- whether the outstanding request with this Message ID asked for an additional Child SA
 abbrev pub has_asked : Option Request → Bool
 has_asked None = false
 has_asked (Some request) = asks_for_child request.purpose
@@ -159,7 +159,7 @@ abbrev pub asked_further : Association → ℕ → Bool
 asked_further a number = has_asked (map.get a.outgoing.outstanding number)
 
 -- what a response of these payloads does at an established IKE SA, by whether its request asked for an
--- additional child
+-- additional Child SA
 abbrev pub DoesAnswer : Bool → Setup → Association → Database → ℕ → Plain → Effect → Association → Database → Type 0
 DoesAnswer true setup old table number plain (effect.Counted ended) new new_table = CountsFurther setup old table number plain ended new new_table
 DoesAnswer true setup old table number plain e new new_table = ⊥

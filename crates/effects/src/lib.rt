@@ -23,10 +23,10 @@
 //! [`association`], [`requests`] and [`sadb`]. No law is over more than one message.
 //!
 //! The invariant of an IKE SA is `IsSoundlyHeld` (`specs/Requests`): what is outstanding belongs to its
-//! phase, and what is kept of the peer's requests belongs to its window. `RequestLemmas` shows that a
-//! message keeps it, and which requests take effect. Other files have a subject each: children
-//! (`MadeLemmas`), SPIs (`HeldSpiLemmas`, `ReleasedLemmas`), time (`DueLemmas`, `WaitLemmas`), moves
-//! (`MoveLemmas`, `OpeningLemmas`). The files `Determined..` show that each relation has one result.
+//! phase, and what is kept of the peer's requests belongs to its window. `RequestLemmas` shows that a message
+//! keeps it, and which requests are processed. Other files have a subject each: Child SAs (`MadeLemmas`),
+//! SPIs (`HeldSpiLemmas`, `ReleasedLemmas`), time (`DueLemmas`, `WaitLemmas`), moves (`MoveLemmas`,
+//! `OpeningLemmas`). The files `Determined..` show that each relation has one result.
 #![tactic(auto)]
 
 pub mod laws;

@@ -29,7 +29,7 @@ pub enum Effect {
     Refused(MessageFault),
     /// A retransmitted request gets the octets of the first response; nothing changes.
     Repeated(Items<u8>),
-    /// A request took effect, and is answered.
+    /// A request was processed, and is answered.
     Replied(Answered),
     /// The response to IKE_SA_INIT asks for a cookie: this request is to be sent with it.
     Again(Items<u8>),
@@ -47,13 +47,13 @@ pub enum Effect {
 /// [`create_child::count`]. In a phase to which its exchange doesn't belong, a message is dropped as
 /// [`MessageFault::WrongPhase`].
 ///
-/// The octets must be those from which the message was decoded, the SPIs that the IKE SA holds for children
+/// The octets must be those from which the message was decoded, the SPIs that the IKE SA holds for Child SAs
 /// must be reserved in the table, and what is outstanding must belong to its phase.
 ///
-/// An error is for want of memory alone, and changes nothing but the table's spare capacity. It is
-/// [`MemoryFault::Message`], or one of the other three where the message counts and IKE_AUTH or
-/// CREATE_CHILD_SA makes a child. [`MemoryFault::Table`] comes only at the end that answers, of a table
-/// without a spare place that could take more pairs.
+/// The only error is an allocation failure, and it changes nothing but the table's spare capacity. It is
+/// [`MemoryFault::Message`], or one of the other three where the message is processed or matched and IKE_AUTH
+/// or CREATE_CHILD_SA makes a child. [`MemoryFault::Table`] comes only at the end that answers, of a table
+/// without a spare place that could take more SA pairs.
 pub fn take_message<C: Sealer + Agreement + Proof>(
     alloc: Global,
     setup: &Setup<'_, C>,

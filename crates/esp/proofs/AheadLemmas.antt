@@ -1,4 +1,4 @@
--- Check values that are computed ahead, and runs over groups of packets.
+-- ICVs that are computed ahead, and runs over groups of packets.
 use Rattle.std.proofs.Common.{◌≡◌, ℕ, zero, suc, ◌+◌, ◌-◌, ◌/◌, ◌^◌, ◌<◌, ◌≤◌, List, [], ◌∷◌, ◌++◌, length, map, take, drop, get_or, refl, sym, ap, ◌∙◌, subst, arith, inl, inr, Some, None, Option, length-append, length-drop}
 use Rattle.std.specs.Prelude.{◌≢◌, IsSome, IfSome, if◌then◌else◌, All, replicate}
 use Rattle.std.proofs.lemmas.List.Elements.{All-append, All-from_get_or, All-more, All-take, All-drop, All-weaker}
@@ -22,7 +22,7 @@ use Rattle.esp.proofs.Runs.{run_joined, step_keeps}
 
 -- ---- what is asked
 
--- what is asked of one packet is its check value
+-- what is asked of one packet is its ICV
 pub asked_value : (a : Sa) (packets : List (List ℕ)) (one : Asked) (b part value : List ℕ) → value ≡ icv_sha256 a.key (part ++ (if a.extended then one.half else []))
     → b ≡ get_or packets one.place [] → part ≡ take (length b - 16) b → one.half ≡ big_bytes 4 (one.number / 2 ^ 32) → value ≡ value_asked a packets one
 asked_value a packets one b part value is e_b e_part e_half =
@@ -116,7 +116,7 @@ if_ahead P (Some x) each = each x refl
 
 -- ---- runs
 
--- a run keeps the association
+-- a run keeps the SA
 pub run_keeps : (want : Type 0) (old : Receiving) (bs : List (List ℕ)) (rs : List Answer) (new : Receiving) → Run want old bs rs new → new.association ≡ old.association
 run_keeps want old [] [] new run = ap (λ (r : Receiving). r.association) run
 run_keeps want old (b ∷ bs) (r ∷ rs) new run = run_keeps want run.0 bs rs new run.2 ∙ step_keeps want old b r run.0 run.1

@@ -1,4 +1,4 @@
--- Check values as numbers: octets that spell one number are the same octets.
+-- ICVs as numbers: octets that spell one number are the same octets.
 use Rattle.std.proofs.Common.{◌≡◌, ℕ, zero, suc, ◌+◌, ◌*◌, ◌<◌, ◌≤◌, List, length, get_or, sym, ◌∙◌, subst, arith, inl, inr}
 use Rattle.std.specs.Prelude.{slice_index}
 use Rattle.std.specs.Int.{from_le_bytes, w128}

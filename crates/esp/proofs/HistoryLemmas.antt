@@ -77,7 +77,7 @@ module _ (h : History) (is : IsJudged h) where
     | inr absent ↦ absent
   ]
 
-  -- a number that was judged is not judged at a later position
+  -- a sequence number that was judged is not judged at a later position
   not_again : (i j n : ℕ) → slice_get h.numbers i ≡ Some (Some n) → slice_get h.numbers j ≡ Some (Some n) → j < i → ⊥
   not_again i j n at_i at_j earlier = both_ways _ (judged_at i n at_i).judged.new (taken_later h.before h.numbers i j n at_j earlier)
 
@@ -94,7 +94,7 @@ module _ (h : History) (is : IsJudged h) where
   }
 
   module _ (sent : map.FinMap nat_cmp (List ℕ)) (u : Unforged h sent) where
-    -- where a number is judged, what was sent under it arrives
+    -- where a sequence number is judged, what was sent under it arrives
     arrives : (i n : ℕ) → slice_get h.numbers i ≡ Some (Some n) → Arrives h sent n i
     arrives i n at_i =
         let r = judged_at i n at_i in
@@ -146,7 +146,7 @@ module _ (a : Sa) (size : ℕ) (before : set.FinSet nat_cmp) (bs : List (List �
   abbrev with : List (Option ℕ) → History
   with ns = record { association = a; size = size; before = before; packets = bs; numbers = ns }
 
-  -- a number judged in one history, after the same numbers, was judged in the other
+  -- a sequence number judged in one history, after the same numbers, was judged in the other
   follows : (ns ms : List (Option ℕ)) (i n : ℕ) → IsJudged (with ns) → IsJudged (with ms) → take i ns ≡ take i ms → slice_get ns i ≡ Some (Some n) → slice_get ms i ≡ Some (Some n)
   follows ns ms i n is other pre e =
       let r = judged_at (with ns) is i n e in

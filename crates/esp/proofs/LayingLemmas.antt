@@ -1,4 +1,4 @@
--- Packets that are laid one after the other, and then get their check values.
+-- Packets that are laid one after the other, and then get their ICVs.
 use Rattle.std.proofs.Common.{◌≡◌, ℕ, zero, suc, ◌+◌, ◌-◌, ◌%◌, ◌^◌, ◌<◌, ◌≤◌, List, [], ◌∷◌, ◌++◌, length, map, take, drop, get_or, refl, sym, ap, ◌∙◌, subst, arith, inl, inr, length-append, length-drop}
 use Rattle.std.specs.Prelude.{◌≢◌, ◌/◌, Bool, true, false, replicate, slice_set, if◌then◌else◌}
 use Rattle.byteorder.specs.Endian.{big_bytes}
@@ -68,8 +68,7 @@ pad_fills n = omega arith
 abbrev sending : Sa → ℕ → Sending
 sending a last = record { association = a; last = last }
 
--- once they have their check values, the packets that were laid are those that so many calls would have
--- sealed
+-- once they have their ICVs, the packets that were laid are those that so many calls would have sealed
 pub with_check_values : (a : Sa) (last next : ℕ) (ps : List (List ℕ)) (before : List ℕ) (n : ℕ) → n ≡ length ps
     → ((i : ℕ) → i < n → FitsPacket (get_or ps i [])) → (1 ≤ n → last + n < number_limit a.extended)
     → SealRun (sending a last) next ps before (sending a (last + n)) (before ++ with_values (sizes ps) (values_in a last (sizes ps) (laid a last next ps)) (laid a last next ps))
@@ -147,7 +146,7 @@ octets_at ps j d within =
     ap most_octets (drop_more (payloads_of ps) j [] (omega (arith, length-map ps (λ p. p.now))))
     ∙ ap (λ (p : List ℕ). length p + 29 + most_octets (drop (j + 1) (payloads_of ps))) (get_or-map (λ p. p.now) ps j d [] within)
 
--- one check value more is asked for
+-- one ICV more is asked for
 pub value_more : (a : Sa) (last j start size : ℕ) (ss octets : List ℕ) (done : List (List ℕ)) (v : List ℕ) (all : List (List ℕ))
     → drop j ss ≡ size ∷ drop (j + 1) ss → v ≡ check_value a (last + j + 1) (take size (drop start octets))
     → done ++ values_in a (last + j) (drop j ss) (drop start octets) ≡ all
@@ -199,7 +198,7 @@ half_more last j halves v within is so_far = record {
   ];
 }
 
--- parts that were appended, with what stands in the place of the check value
+-- parts that were appended, with what stands in the place of the ICV
 pub with_zeros : (before front payload pads tail zeros after : List ℕ) → after ≡ before ++ (front ++ (payload ++ (pads ++ (tail ++ (zeros ++ [])))))
     → after ≡ before ++ ((front ++ payload ++ (pads ++ tail)) ++ zeros)
 with_zeros before front payload pads tail zeros after is =
@@ -210,7 +209,7 @@ with_zeros before front payload pads tail zeros after is =
     ∙ sym (append_assoc front payload ((pads ++ tail) ++ zeros))
     ∙ sym (append_assoc (front ++ payload) (pads ++ tail) zeros))
 
--- one check value more is written
+-- one ICV more is written
 pub value_written : (j start size k : ℕ) (ss : List ℕ) (vs : List (List ℕ)) (v octets all : List ℕ)
     → k ≡ 16 → drop j ss ≡ size ∷ drop (j + 1) ss → drop j vs ≡ v ∷ drop (j + 1) vs → length v ≡ 16 → start + size + 16 ≤ length octets
     → take start octets ++ with_values (drop j ss) (drop j vs) (drop start octets) ≡ all
@@ -304,7 +303,7 @@ module _ (k : ℕ) (old : Sending) (next : ℕ) (payloads : List (Bor (List ℕ)
       let small : i < k = omega (arith, count, ap length (take-payloads payloads k), length-map (take k payloads) (λ p. p.now)) in
       subst FitsPacket (sym (ap (λ (ps : List (List ℕ)). get_or ps i []) (take-payloads payloads k) ∙ get_or-take k (payloads_of payloads) i [] small)) (first.fit i small)
 
-  -- the numbers of a group have 64 bits
+  -- the sequence numbers of a group have 64 bits
   pub group_numbers : (last : ℕ) → last ≡ old.last → 1 ≤ length (take k payloads) → last + length (take k payloads) < 2 ^ 64
   group_numbers last is some =
       let long : length (take k payloads) ≡ k = sym (length-map (take k payloads) (λ p. p.now)) ∙ ap length (take-payloads payloads k) ∙ count in

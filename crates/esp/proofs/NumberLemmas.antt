@@ -1,4 +1,4 @@
--- Numbers and sets of numbers: a packet has one number, and the greatest of a set.
+-- Sequence numbers and sets of numbers: a packet has one number, and the greatest of a set.
 use Rattle.std.proofs.Common.{◌≡◌, ℕ, ◌≤◌, Bool, true, false, List, [], ◌∷◌, refl, sym, ap, ◌∙◌, arith, inl, inr}
 use Rattle.std.specs.Prelude.{◌||◌, max, nat_eq}
 use Rattle.std.specs.Ordering.{nat_cmp, eq_by_cmp}
@@ -17,7 +17,7 @@ pub one_number_of : (e : Bool) (w : Seen) (low n m : ℕ) → IsNumber e w low n
 one_number_of false w low n m r s = r.0 ∙ sym s.0
 one_number_of true w low n m r s = one_number w.top w.size low n m r s
 
--- no packet has the number 0
+-- no packet has the sequence number 0
 pub number_positive : (e : Bool) (w : Seen) (low n : ℕ) → IsNumber e w low n → 1 ≤ n
 number_positive false w low n h = h.1
 number_positive true w low n h = h.not_zero
@@ -29,7 +29,7 @@ judged_as_one a w b n m j k = one_number_of a.extended w (low_half b) n m j.numb
 pub judged_positive : (a : Sa) (w : Seen) (b : List ℕ) (n : ℕ) → Judges a w b n → 1 ≤ n
 judged_positive a w b n j = number_positive a.extended w (low_half b) n j.number
 
--- no listed number is above the greatest
+-- no listed sequence number is above the greatest
 listed-le : (ns : List ℕ) (n : ℕ) → list_any (eq_by_cmp nat_cmp n) ns ≡ true → n ≤ greatest_of ns
 listed-le [] n e = absurd (false≢true e)
 listed-le (m ∷ ms) n e = elim (or_cases (eq_by_cmp nat_cmp n m) (list_any (eq_by_cmp nat_cmp n) ms) e) [

@@ -62,7 +62,7 @@ head_is a b n long octets spi low =
     ∙ ap (λ (xs : List ℕ). xs ++ drop 4 (take 8 b)) (take-take 4 8 b (omega arith) ∙ spi)
     ∙ ap (λ (xs : List ℕ). big_bytes 4 a.spi ++ xs) (drop-take 4 4 b ∙ sym (low_half_spells b long octets) ∙ ap (big_bytes 4) (sym low))
 
--- octets whose check value is right pass the integrity check
+-- octets whose ICV is right pass the integrity check
 pub intact : (a : Sa) (b : List ℕ) (n : ℕ) → 24 ≤ length b → AreOctets b → take 4 b ≡ big_bytes 4 a.spi → n % 2 ^ 32 ≡ low_half b → n < number_limit a.extended
     → drop (length b - 16) b ≡ check_value a n (take (length b - 16) b) → PassesIntegrity a n b
 intact a b n long octets spi low fits right = record {
@@ -84,7 +84,7 @@ right_check a b n p =
     let front : take (length b - 16) b ≡ p.rest = ap (take (length b - 16)) p.octets ∙ take_at p.rest p.check (length b - 16) at in
     tail ∙ p.right ∙ ap (check_value a n) (sym front)
 
--- the low half and the bound of a packet's number
+-- the low half and the bound of a packet's sequence number
 number_low : (e : Bool) (w : Seen) (low n : ℕ) → low < 2 ^ 32 → IsNumber e w low n → n % 2 ^ 32 ≡ low
 number_low false w low n small h = let same = h.0 in omega arith
 number_low true w low n small h = h.low_half
@@ -93,7 +93,7 @@ number_fits : (e : Bool) (w : Seen) (low n : ℕ) → low < 2 ^ 32 → IsNumber 
 number_fits false w low n small h = let same = h.0 in omega arith
 number_fits true w low n small h = h.fits
 
--- a packet whose number is fresh and whose check value is right is judged as that number
+-- a packet whose sequence number is fresh and whose ICV is right is judged as that number
 pub judged : (r : Receiving) (b : List ℕ) (n : ℕ) → (4 ≤ length b → take 4 b ≡ big_bytes 4 r.association.spi) → AreOctets b → IsFreshNumber r b n
     → drop (length b - 16) b ≡ check_value r.association n (take (length b - 16) b) → Judges r.association r.window b n
 judged r b n spi octets f right =

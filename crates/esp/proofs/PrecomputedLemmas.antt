@@ -1,4 +1,4 @@
--- Check values that were computed before their packets are opened: questions, and what answers them.
+-- ICVs that were computed before their packets are opened: questions, and what answers them.
 use Rattle.std.proofs.Common.{◌≡◌, ℕ, zero, suc, ◌+◌, ◌-◌, ◌<◌, Bool, List, [], ◌∷◌, ◌++◌, length, map, take, get_or, sym, ap, ◌∙◌, subst, arith, inl, inr, Some, None, Option}
 use Rattle.std.specs.Prelude.{◌≢◌, if◌then◌else◌, All, replicate}
 use Rattle.std.proofs.lemmas.List.Elements.{All-append, All-from_get_or}
@@ -17,7 +17,7 @@ use Rattle.esp.specs.Ahead.{IsAhead}
 use Rattle.esp.specs.Packet.{unsent_half}
 use Rattle.esp.specs.Precomputed.{AreAnswers, ArePrecomputed, AreQuestions, IsAnswer, IsPrecomputed, IsQuestion, asked_value}
 
--- the value is the association's own
+-- the value is the SA's own
 pub under_association : (b : List ℕ) (found : Precomputed) (a : Sa) (own : Ahead) → IsPrecomputed b found → found.extended ≡ a.extended → found.key ≡ a.key
     → own.number ≡ found.number → own.value ≡ found.value → IsAhead a b own
 under_association b found a own is extended key number value = record {
@@ -29,7 +29,7 @@ under_association b found a own is extended key number value = record {
       ∙ ap (λ (n : ℕ). icv_sha256 a.key (take (length b - 16) b ++ unsent_half a.extended n)) (sym number);
 }
 
--- the answer to a question about a packet is its check value
+-- the answer to a question about a packet is its ICV
 precomputed_at : (b : List ℕ) (question : Question) (found : Precomputed) → IsQuestion b question → found.key ≡ question.association.now.key
     → found.extended ≡ question.association.now.extended → found.number ≡ question.number → found.value ≡ asked_value question → IsPrecomputed b found
 precomputed_at b question found is key extended number value = record {

@@ -30,7 +30,7 @@ run_more want old (x ∷ bs) (y ∷ rs) mid b r new run step = (run.0, run.1, ru
 run_more want old [] (y ∷ rs) mid b r new run step = absurd run
 run_more want old (x ∷ bs) [] mid b r new run step = absurd run
 
--- a number at one window is that at another with the same top and size
+-- a sequence number at one window is that at another with the same top and size
 number_seen : (e : Bool) (w v : Seen) (low n : ℕ) → w.top ≡ v.top → w.size ≡ v.size → IsNumber e w low n → IsNumber e v low n
 number_seen false w v low n top size h = h
 number_seen true w v low n top size h = record {
@@ -41,7 +41,7 @@ number_seen true w v low n top size h = record {
   fits = h.fits;
 }
 
--- what a window that shows these numbers says of a packet, they all say
+-- what a window that shows these sequence numbers says of a packet, they all say
 module _ (w : Seen) (size : ℕ) (taken : set.FinSet nat_cmp) (shows : Shows w size taken) where
   number_all : (e : Bool) (low n : ℕ) → IsNumber e w low n → IsNumber e (all_taken size taken) low n
   number_all e low n h = number_seen e w (all_taken size taken) low n shows.top shows.size_kept h
@@ -83,7 +83,7 @@ module _ (w : Seen) (size : ℕ) (taken : set.FinSet nat_cmp) (shows : Shows w s
   refuses_all a b BadPadding h = h
   refuses_all a b Memory h = h
 
--- what is refused is judged as no number
+-- what is refused is judged as no sequence number
 refused_unjudged : (a : Sa) (w : Seen) (b : List ℕ) (e : EspFault) → IsOpeningRefusal a w b e → (n : ℕ) → ¬ Judges a w b n
 refused_unjudged a w b BadLength h n j = h j.whole
 refused_unjudged a w b BadNumber h n j = h.1 n j.number
@@ -108,7 +108,7 @@ same_in_span false false l m h = refl
 same_in_span false true false true h = absurd (false≢true (h refl))
 same_in_span false true false false h = refl
 
--- the window that took n shows the numbers with n
+-- the window that took n shows the sequence numbers with n
 pub takes_shown : (old new : Seen) (n size : ℕ) (taken : set.FinSet nat_cmp) → 1 ≤ n → Shows old size taken → Takes old n new → Shows new size (set.insert taken n)
 takes_shown old new n size taken positive shows takes = record {
   top = takes.top ∙ ap (λ (t : ℕ). max t n) shows.top ∙ sym (greatest-insert taken n positive);
@@ -125,7 +125,7 @@ takes_shown old new n size taken positive shows takes = record {
       ∙ ap (λ (c : Bool). c && nat_lt new.top (q + size)) (sym (contains-insert_nat taken n q));
 }
 
--- a sound window shows the numbers that are in it
+-- a sound window shows the sequence numbers that are in it
 pub sound_shown : (w : Seen) → IsSoundWindow w → Shows w w.size w.taken
 sound_shown w sound = record {
   top = greatest-is w.taken w.top sound.up_to_top sound.top_taken;
@@ -136,7 +136,7 @@ sound_shown w sound = record {
   ];
 }
 
--- Packet by packet: each was judged as the number beside it, or as none because no number judges it.
+-- Packet by packet: each was judged as the sequence number beside it, or as none because no number judges it.
 abbrev AreJudged : Sa → ℕ → set.FinSet nat_cmp → List (List ℕ) → List (Option ℕ) → Type 0
 AreJudged a size taken [] [] = Unit {0}
 AreJudged a size taken (b ∷ bs) (Some n ∷ ns) = Judges a (all_taken size taken) b n × AreJudged a size (set.insert taken n) bs ns
@@ -202,7 +202,7 @@ due_each a size taken [] (n ∷ ns) rs h = absurd h
 due_each a size taken (b ∷ bs) [] rs h = absurd h
 due_each a size taken (b ∷ bs) (n ∷ ns) [] h = absurd h
 
--- what is taken after one more number in front
+-- what is taken after one more sequence number in front
 taken_one_more : (taken : set.FinSet nat_cmp) (n : Option ℕ) (ns : List (Option ℕ)) → taken_after (taken_after taken (n ∷ [])) ns ≡ taken_after taken (n ∷ ns)
 taken_one_more taken None ns = refl
 taken_one_more taken (Some n) ns = refl
@@ -229,7 +229,7 @@ are_answers a size taken bs ns rs h = record {
   due = λ i b n r e at is. due_there a size taken bs ns rs i b n r h e at is;
 }
 
--- What a run is, at a receiver whose window shows these numbers.
+-- What a run is, at a receiver whose window shows these sequence numbers.
 record Outcome (want : Type 0) (a : Sa) (size : ℕ) (taken : set.FinSet nat_cmp) (bs : List (List ℕ)) (rs : List Answer) (new : Receiving) : Type 0 where
   numbers : List (Option ℕ)
   judged : AreJudged a size taken (delivered_packets bs rs) numbers
@@ -238,7 +238,7 @@ record Outcome (want : Type 0) (a : Sa) (size : ℕ) (taken : set.FinSet nat_cmp
   association : new.association ≡ a
   window : Shows new.window size (taken_after taken numbers)
 
--- A receiver of this association whose window shows these numbers.
+-- A receiver of this SA whose window shows these sequence numbers.
 record Stands (r : Receiving) (a : Sa) (size : ℕ) (taken : set.FinSet nat_cmp) : Type 0 where
   association : r.association ≡ a
   window : Shows r.window size taken
@@ -260,7 +260,7 @@ module _ (a : Sa) (size : ℕ) (taken : set.FinSet nat_cmp) (r : Receiving) (sta
   moved new same = subst (λ (q : Receiving). Stands q a size taken) (sym same) stands
 
 module _ (want : Type 0) (a : Sa) (size : ℕ) where
-  -- a packet in front that was refused, and is judged as no number
+  -- a packet in front that was refused, and is judged as no sequence number
   without_number : (taken : set.FinSet nat_cmp) (b : List ℕ) (e : EspFault) (bs : List (List ℕ)) (rs : List Answer) (new : Receiving) → IsOpeningRefusal a (all_taken size taken) b e
       → delivered_packets (b ∷ bs) (Err e ∷ rs) ≡ b ∷ delivered_packets bs rs → delivered_answers (Err e ∷ rs) ≡ Err e ∷ delivered_answers rs
       → ((ns : List (Option ℕ)) → WantsWhereJudged want a size taken bs rs ns → WantsWhereJudged want a size taken (b ∷ bs) (Err e ∷ rs) (None ∷ ns))
@@ -379,7 +379,7 @@ deliveries want old packets answers new sound run =
       window = o.window;
     }
 
--- a step keeps the association
+-- a step keeps the SA
 pub step_keeps : (want : Type 0) (old : Receiving) (b : List ℕ) (r : Answer) (new : Receiving) → Step want old b r new → new.association ≡ old.association
 step_keeps want old b (Ok o) new s = s.taken.association
 step_keeps want old b (Err BadPadding) new s = s.1.taken.association

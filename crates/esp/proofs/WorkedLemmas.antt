@@ -1,4 +1,4 @@
--- The worked lists are judged as they say, and no check value in them is forged.
+-- The worked lists are judged as they say, and no ICV in them is forged.
 use Rattle.std.proofs.Common.{◌≡◌, ℕ, zero, suc, ◌+◌, ◌%◌, ◌^◌, ◌<◌, Bool, true, false, cond, List, length, take, refl, sym, ap, ◌∙◌, subst, arith, inl, inr, ◌⊎◌, ◌↔◌, Some, None, Option}
 use Rattle.std.specs.Prelude.{slice_get, nat_eq}
 use Rattle.std.specs.Ordering.{nat_cmp}
@@ -14,7 +14,7 @@ use Rattle.esp.specs.Worked.{worked, worked_payload, worked_packet, repeated, re
 use Rattle.esp.proofs.NumberLemmas.{one_number_of, judged_as_one, contains-insert_nat, greatest-insert, greatest-is}
 use Rattle.esp.proofs.PacketLemmas.{packet_passes, packet_whole, packet_low_half}
 
--- no number was taken at first
+-- no sequence number was taken at first
 none_taken : (n : ℕ) → set.contains (set.empty {R = nat_cmp}) n ≡ false
 none_taken n = set.contains-empty nat_cmp n
 
@@ -46,12 +46,13 @@ inserted m k n p b e = elim (found (nat_eq n k) p b (map.get m n) (sym (get-inse
 not_in_empty : (n : ℕ) (b : List ℕ) → map.get nothing n ≡ Some b → ⊥
 not_in_empty n b e = let none : map.get nothing n ≡ None = map.get-empty nat_cmp n in cc
 
--- the packets are packets of their association
+-- the packets are packets of their SA
 packet_is : (e : Bool) (n : ℕ) → (e ≡ true) ⊎ (n < 2 ^ 32) → n < 2 ^ 64 → IsPacket (worked e) n 4 worked_payload 2 (worked_packet e n)
 packet_is true n h small = record { octets = refl; aligned = refl; one_octet = omega arith; fits = small }
 packet_is false n h small = record { octets = refl; aligned = refl; one_octet = omega arith; fits = elim h [ inl wrong ↦ absurd (false≢true wrong) | inr below ↦ below ] }
 
--- such a packet is judged wherever its number is the one that it was sealed with, in reach and not taken
+-- such a packet is judged wherever its sequence number is the one that it was sealed with, in reach and not
+-- taken
 judged_at : (e : Bool) (n : ℕ) (w : Seen) (is : IsPacket (worked e) n 4 worked_payload 2 (worked_packet e n)) → IsNumber e w (n % 2 ^ 32) n → w.top < n + w.size → set.contains w.taken n ≡ false
     → Judges (worked e) w (worked_packet e n) n
 judged_at e n w is number reach new = record {
@@ -71,7 +72,7 @@ seven_is = packet_is false 7 (inr (omega arith)) (omega arith)
 seven : Judges (worked false) first_seen (worked_packet false 7) 7
 seven = judged_at false 7 first_seen seven_is (refl, omega arith) (let g = greatest-empty in omega arith) (none_taken 7)
 
--- its number is 7 wherever it comes
+-- its sequence number is 7 wherever it comes
 seven_only : (w : Seen) (n : ℕ) → IsNumber false w (low_half (worked_packet false 7)) n → n ≡ 7
 seven_only w n h = h.0 ∙ packet_low_half (worked false) 7 4 worked_payload 2 (worked_packet false 7) seven_is
 

@@ -1,5 +1,5 @@
--- Opening a list in steps: check values are computed before their packets are judged, and packets are opened
--- in groups.
+-- Opening a list in steps: ICVs are computed before their packets are judged, and packets are opened in
+-- groups.
 use Rattle.std.specs.Prelude.{◌≡◌, ℕ, ◌-◌, ◌/◌, ◌^◌, ◌<◌, ◌≤◌, List, [], ◌++◌, Option, Some, None, IsSome, length, take, get_or}
 use Rattle.byteorder.specs.Endian.{big_bytes}
 use Rattle.esp.specs.declared.sa.Sa.{Sa}
@@ -9,25 +9,26 @@ use Rattle.esp.specs.Packet.{check_value}
 use Rattle.esp.specs.Opening.{Answer, IsFreshNumber, Run}
 use Rattle.esp.specs.Views.{Receiving}
 
--- what the check value of this packet is under this number
+-- what the ICV of this packet is under this sequence number
 abbrev pub value_of : Sa → ℕ → List ℕ → List ℕ
 value_of a n b = check_value a n (take (length b - 16) b)
 
--- one of these packets is asked for, which is long enough for a check value, with the high half of its number
+-- one of these packets is asked for, which is long enough for an ICV, with the high half of its sequence
+-- number
 pub record IsAsked (packets : List (List ℕ)) (one : Asked) : Type 0 where
   pub within : one.place < length packets
   pub long : 16 ≤ length (get_or packets one.place [])
   pub half : one.half ≡ big_bytes 4 (one.number / 2 ^ 32)
 
--- its number is that of the packet, as the receiver is, and was not taken
+-- its sequence number is that of the packet, as the receiver is, and was not taken
 abbrev pub HasFreshNumber : Receiving → List (List ℕ) → Asked → Type 0
 HasFreshNumber r packets one = IsFreshNumber r (get_or packets one.place []) one.number
 
--- the check value that is asked for
+-- the ICV that is asked for
 abbrev pub value_asked : Sa → List (List ℕ) → Asked → List ℕ
 value_asked a packets one = value_of a one.number (get_or packets one.place [])
 
--- the value is that of the packet under the number
+-- the value is that of the packet under the sequence number
 pub record IsAhead (a : Sa) (b : List ℕ) (found : Ahead) : Type 0 where
   pub right : found.value ≡ value_of a found.number b
 

@@ -15,7 +15,7 @@ use Rattle.esp.specs.declared.fault.ListFault.{ListFault}
 use Rattle.esp.specs.declared.fault.ListStop.{ListStop}
 use Rattle.esp.specs.declared.fault.EspFault.TheVariants.{BadPadding, Memory}
 
--- the greatest of these numbers, 0 where there is none
+-- the greatest of these sequence numbers, 0 where there is none
 abbrev pub greatest_of : List ℕ → ℕ
 greatest_of [] = 0
 greatest_of (n ∷ ns) = max n (greatest_of ns)
@@ -23,11 +23,11 @@ greatest_of (n ∷ ns) = max n (greatest_of ns)
 abbrev pub greatest : set.FinSet nat_cmp → ℕ
 greatest taken = greatest_of (set.items taken)
 
--- all numbers that were taken, as a window of this size that never forgot one
+-- all sequence numbers that were taken, as a window of this size that never forgot one
 abbrev pub all_taken : ℕ → set.FinSet nat_cmp → Seen
 all_taken size taken = record { top = greatest taken; size = size; taken = taken }
 
--- the numbers taken after a list in which these packets were judged as these numbers, if any
+-- the sequence numbers taken after a list in which these packets were judged as these numbers, if any
 abbrev pub taken_after : set.FinSet nat_cmp → List (Option ℕ) → set.FinSet nat_cmp
 taken_after taken [] = taken
 taken_after taken (None ∷ ns) = taken_after taken ns
@@ -38,24 +38,24 @@ pub record History : Type 0 where
   pub association : Sa
   -- the size of the replay window
   pub size : ℕ
-  -- the numbers that were taken before the list
+  -- the sequence numbers that were taken before the list
   pub before : set.FinSet nat_cmp
   pub packets : List (List ℕ)
-  -- the number that each packet was judged as, if any
+  -- the sequence number that each packet was judged as, if any
   pub numbers : List (Option ℕ)
 
--- the numbers taken before position i, of which none is forgotten
+-- the sequence numbers taken before position i, of which none is forgotten
 abbrev pub taken_at : History → ℕ → Seen
 taken_at h i = all_taken h.size (taken_after h.before (take i h.numbers))
 
--- each packet was judged as a number exactly if the rule judges it so at the numbers taken before it
+-- each packet was judged as a sequence number exactly if the rule judges it so at the numbers taken before it
 pub record IsJudged (h : History) : Type 0 where
   pub each : length h.numbers ≡ length h.packets
   pub judged : (i n : ℕ) (b : List ℕ) → slice_get h.packets i ≡ Some b
       → (slice_get h.numbers i ≡ Some (Some n)) ↔ Judges h.association (taken_at h i) b n
 
--- The answer to a packet that was judged as a number: its payload, or bad padding. To another: why it was
--- refused.
+-- The answer to a packet that was judged as a sequence number: its payload, or bad padding. To another: why
+-- it was refused.
 abbrev pub IsAnswerDue : Sa → Seen → List ℕ → Option ℕ → Answer → Type 0
 IsAnswerDue a w b (Some n) (Ok o) = (o.number ≡ n) × IsContents b o.next o.payload.now
 IsAnswerDue a w b (Some n) (Err BadPadding) = (next : ℕ) (payload : List ℕ) → ¬ IsContents b next payload
@@ -63,20 +63,20 @@ IsAnswerDue a w b (Some n) (Err e) = ⊥
 IsAnswerDue a w b None (Ok o) = ⊥
 IsAnswerDue a w b None (Err e) = IsOpeningRefusal a w b e
 
--- each packet has the answer that is due at the numbers taken before it
+-- each packet has the answer that is due at the sequence numbers taken before it
 pub record AreAnswers (h : History) (answers : List Answer) : Type 0 where
   pub each : length answers ≡ length h.packets
   pub due : (i : ℕ) (b : List ℕ) (n : Option ℕ) (r : Answer) → slice_get h.packets i ≡ Some b
       → slice_get h.numbers i ≡ Some n → slice_get answers i ≡ Some r → IsAnswerDue h.association (taken_at h i) b n r
 
--- no number is judged twice, nor one that was taken before the list
+-- no sequence number is accepted twice, nor one that was taken before the list
 pub record AtMostOnce (h : History) : Type 0 where
   pub new : (i n : ℕ) → slice_get h.numbers i ≡ Some (Some n) → set.contains h.before n ≡ false
   pub once : (i j n : ℕ) → slice_get h.numbers i ≡ Some (Some n) → slice_get h.numbers j ≡ Some (Some n) → i ≡ j
 
--- The premise that no check value was forged. sent is what was sent, from number to octets: each entry passes
--- the integrity check under its number and has a length that is judged, and whatever passes at a delivery
--- under the number of that packet there is that number's entry.
+-- The assumption that no ICV was forged. sent is what was sent, from sequence number to octets: each entry
+-- passes the integrity check under its number and has a length that is judged, and whatever passes at a
+-- delivery under the number of that packet there is that number's entry.
 pub record Unforged (h : History) (sent : finite_map.FinMap nat_cmp (List ℕ)) : Type 0 where
   pub whole : (n : ℕ) (b : List ℕ) → finite_map.get sent n ≡ Some b → IsJudgedLength (length b)
   pub intact : (n : ℕ) (b : List ℕ) → finite_map.get sent n ≡ Some b → PassesIntegrity h.association n b
@@ -84,8 +84,8 @@ pub record Unforged (h : History) (sent : finite_map.FinMap nat_cmp (List ℕ)) 
       → IsNumber h.association.extended (taken_at h i) (low_half b) n → PassesIntegrity h.association n b
       → finite_map.get sent n ≡ Some b
 
--- at position i the octets sent as n are delivered, the packet's number there is n, and n lies above the
--- greatest number taken less the size
+-- at position i the octets sent as n are delivered, the packet's sequence number there is n, and n lies above
+-- the greatest number taken less the size
 pub record Arrives (h : History) (sent : finite_map.FinMap nat_cmp (List ℕ)) (n i : ℕ) : Type 0 where
   pub packet : List ℕ
   pub delivered_here : slice_get h.packets i ≡ Some packet
@@ -123,7 +123,7 @@ WantsWhereJudged want a size taken (b ∷ bs) (r ∷ rs) (n ∷ ns) =
     WantsWhereJudged want a size (taken_after taken (n ∷ [])) bs rs ns
 WantsWhereJudged want a size taken bs rs ns = ⊥
 
--- the window shows these numbers, as far as it spans them
+-- the window shows these sequence numbers, as far as it spans them
 pub record Shows (w : Seen) (size : ℕ) (taken : set.FinSet nat_cmp) : Type 0 where
   pub top : w.top ≡ greatest taken
   pub size_kept : w.size ≡ size
@@ -153,7 +153,7 @@ pub record Deliveries (want : Type 0) (old : Receiving) (packets : List (List �
   pub memory : WantsWhereJudged want old.association old.window.size old.window.taken packets answers numbers
   -- at most once, whatever was delivered
   pub at_most_once : AtMostOnce (history old (delivered_packets packets answers) numbers)
-  -- exactly at the first delivery, where no check value was forged
+  -- exactly at the first delivery, where no ICV was forged
   pub exactly_at_first : (sent : finite_map.FinMap nat_cmp (List ℕ)) → Unforged (history old (delivered_packets packets answers) numbers) sent
       → ExactlyAtFirst (history old (delivered_packets packets answers) numbers) sent
   -- what the end is afterwards
@@ -174,19 +174,20 @@ abbrev pub answers_since : List Answer → List Answer → List Answer
 answers_since before after = drop (length before) after
 
 -- These answers were given to these packets, or to the first of them: the packets that count as delivered
--- were judged as these numbers, one list of which there is, and each of them has the answer that is due.
+-- were judged as these sequence numbers, one list of which there is, and each of them has the answer that is
+-- due.
 pub record AnswersGiven (old : Receiving) (packets : List (List ℕ)) (answers : List Answer) : Type 0 where
   pub numbers : List (Option ℕ)
   pub judged : IsJudged (history old (delivered_packets packets answers) numbers)
   pub answers_due : AreAnswers (history old (delivered_packets packets answers) numbers) (delivered_answers answers)
 
--- so answered, no number was judged twice, nor one that was taken before the list
+-- so answered, no sequence number was accepted twice, nor one that was taken before the list
 pub record JudgesAtMostOnce (old : Receiving) (packets : List (List ℕ)) (answers : List Answer) : Type 0 where
   pub given : AnswersGiven old packets answers
   pub at_most_once : AtMostOnce (history old (delivered_packets packets answers) given.numbers)
 
--- so answered, each sent packet was judged exactly at its first delivery in reach of the window, where no
--- check value was forged
+-- so answered, each sent packet was accepted exactly at its first delivery in reach of the window, where no
+-- ICV was forged
 pub record JudgesExactlyAtFirst (old : Receiving) (packets : List (List ℕ)) (answers : List Answer) : Type 0 where
   pub given : AnswersGiven old packets answers
   pub exactly_at_first : (sent : finite_map.FinMap nat_cmp (List ℕ))

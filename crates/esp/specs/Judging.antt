@@ -1,4 +1,4 @@
--- When a delivered packet is judged as a number (RFC 4303 sections 3.4.3 and 3.4.4).
+-- When a delivered packet is judged as a sequence number (RFC 4303 sections 3.4.3 and 3.4.4).
 use Rattle.std.specs.Prelude.{◌≡◌, ℕ, ◌+◌, ◌%◌, ◌<◌, ◌≤◌, Bool, true, false, List, length, drop}
 use Rattle.std.specs.FinSet as set
 use Rattle.byteorder.specs.Endian.{big_number}
@@ -14,17 +14,17 @@ pub record IsJudgedLength (octets : ℕ) : Type 0 where
   pub least : 28 ≤ octets
   pub most : octets ≤ 16664
 
--- the low half of the number, as the packet has it in octets 4 to 7
+-- the low half of the sequence number, as the packet has it in octets 4 to 7
 abbrev pub low_half : List ℕ → ℕ
 low_half b = big_number 4 (drop 4 b)
 
--- n is the number of a packet with this low half: the low half itself, or with extended numbers what is
--- recovered from it at this window. No packet has the number 0.
+-- n is the sequence number of a packet with this low half: the low half itself, or with ESN what is recovered
+-- from it at this window. No packet has the number 0.
 abbrev pub IsNumber : Bool → Seen → ℕ → ℕ → Type 0
 IsNumber false w low n = (n ≡ low) × (1 ≤ n)
 IsNumber true w low n = IsRecovered w.top w.size low n
 
--- the packet b is judged as number n, where the window is this one
+-- the packet b is judged as sequence number n, where the window is this one
 pub record Judges (a : Sa) (w : Seen) (b : List ℕ) (n : ℕ) : Type 0 where
   pub whole : IsJudgedLength (length b)
   pub number : IsNumber a.extended w (low_half b) n

@@ -1,5 +1,5 @@
--- Sealing a list in steps: packets are laid one after the other with zeros in the place of their check
--- values, and then each gets its own.
+-- Sealing a list in steps: packets are laid one after the other with zeros in the place of their ICVs, and
+-- then each gets its own.
 use Rattle.std.specs.Prelude.{◌≡◌, ℕ, ◌+◌, ◌-◌, ◌/◌, ◌%◌, ◌^◌, ◌<◌, ◌≤◌, List, [], ◌∷◌, ◌++◌, length, map, get_or, take, drop, replicate}
 use Rattle.std.specs.Borrow.{Bor}
 use Rattle.esp.specs.declared.sa.Sa.{Sa}
@@ -12,28 +12,28 @@ use Rattle.esp.specs.Views.{Sending}
 abbrev pub pad_of : ℕ → ℕ
 pad_of octets = (4 - (octets + 2) % 4) % 4
 
--- the octets of its packet that the check value covers
+-- the octets of its packet that the ICV covers
 abbrev pub covered_size : ℕ → ℕ
 covered_size octets = 8 + octets + pad_of octets + 2
 
 abbrev pub covered : Sa → ℕ → ℕ → List ℕ → List ℕ
 covered a n next payload = head a n ++ payload ++ trailer (pad_of (length payload)) next
 
--- the end has a number for the payload, which a packet can carry: this number, and this padding
+-- the end has a sequence number for the payload, which a packet can carry: this number, and this padding
 pub record IsReady (s : Sending) (payload : List ℕ) (n pad : ℕ) : Type 0 where
   pub has_number : HasNumber s
   pub fits : FitsPacket payload
   pub number : n ≡ s.last + 1
   pub least : pad ≡ pad_of (length payload)
 
--- the packet with the number after the last is appended, with zeros in the place of its check value
+-- the packet with the sequence number after the last is appended, with zeros in the place of its ICV
 pub record Lays (old : Sending) (next : ℕ) (payload before : List ℕ) (new : Sending) (after : List ℕ) : Type 0 where
   pub has_number : HasNumber old
   pub fits : FitsPacket payload
   pub last : new ≡ record old { last = old.last + 1 }
   pub appended : after ≡ before ++ (covered old.association (old.last + 1) next payload ++ replicate 16 0)
 
--- the packets of these payloads, with the numbers after this one
+-- the packets of these payloads, with the sequence numbers after this one
 abbrev pub laid : Sa → ℕ → ℕ → List (List ℕ) → List ℕ
 laid a last next [] = []
 laid a last next (p ∷ ps) = (covered a (last + 1) next p ++ replicate 16 0) ++ laid a (last + 1) next ps
@@ -46,11 +46,11 @@ pub record LaysFirst (k : ℕ) (old : Sending) (next : ℕ) (payloads : List (Li
   pub last : new ≡ record old { last = old.last + k }
   pub appended : after ≡ before ++ laid old.association old.last next (take k payloads)
 
--- the octets of each packet that its check value covers
+-- the octets of each packet that its ICV covers
 abbrev pub covered_sizes : List (Bor (List ℕ)) → List ℕ
 covered_sizes payloads = map (λ payload. covered_size (length payload.now)) payloads
 
--- the high halves of the numbers after this one
+-- the high halves of the sequence numbers after this one
 pub record AreHighHalves (last count : ℕ) (halves : List (List ℕ)) : Type 0 where
   pub each : (i : ℕ) → i < count → get_or halves i [] ≡ big_bytes 4 ((last + 1 + i) / 2 ^ 32)
 
@@ -59,13 +59,13 @@ abbrev pub packets_size : List ℕ → ℕ
 packets_size [] = 0
 packets_size (size ∷ sizes) = size + 16 + packets_size sizes
 
--- the check values of packets that lie one after the other, with the numbers after this one
+-- the ICVs of packets that lie one after the other, with the sequence numbers after this one
 abbrev pub values_in : Sa → ℕ → List ℕ → List ℕ → List (List ℕ)
 values_in a last [] octets = []
 values_in a last (size ∷ sizes) octets =
     check_value a (last + 1) (take size octets) ∷ values_in a (last + 1) sizes (drop (size + 16) octets)
 
--- packets that lie one after the other, with these check values
+-- packets that lie one after the other, with these ICVs
 abbrev pub with_values : List ℕ → List (List ℕ) → List ℕ → List ℕ
 with_values (size ∷ sizes) (value ∷ values) octets =
     (take size octets ++ value) ++ with_values sizes values (drop (size + 16) octets)

@@ -12,7 +12,7 @@ use Rattle.esp.specs.declared.fault.EspFault.{EspFault}
 use Rattle.esp.specs.declared.fault.EspFault.TheVariants.{Exhausted, PayloadSize, BadLength, Old, Replayed, BadNumber, BadIcv, BadPadding, Memory}
 
 -- The refusals of a packet that is not judged, each where those before it don't apply: its length, its
--- number, a number below the window, one that was taken, the check value.
+-- sequence number, a number below the window, one that was taken, the ICV.
 abbrev pub IsOpeningRefusal : Sa → Seen → List ℕ → EspFault → Type 0
 IsOpeningRefusal a w b BadLength = ¬ IsJudgedLength (length b)
 IsOpeningRefusal a w b BadNumber = IsJudgedLength (length b) × ((n : ℕ) → ¬ IsNumber a.extended w (low_half b) n)
@@ -31,7 +31,7 @@ IsOpeningRefusal a w b PayloadSize = ⊥
 IsOpeningRefusal a w b BadPadding = ⊥
 IsOpeningRefusal a w b Memory = ⊥
 
--- n is the packet's number at this end, and was not taken
+-- n is the packet's sequence number at this end, and was not taken
 pub record IsFreshNumber (r : Receiving) (b : List ℕ) (n : ℕ) : Type 0 where
   pub whole : IsJudgedLength (length b)
   pub number : IsNumber r.association.extended r.window (low_half b) n
@@ -42,20 +42,20 @@ pub record TakesNumber (old : Receiving) (n : ℕ) (new : Receiving) : Type 0 wh
   pub association : new.association ≡ old.association
   pub window : Takes old.window n new.window
 
--- the packet is judged as n, which is taken, and its payload is handed up
+-- the packet is judged as n, which is taken, and its payload is delivered
 pub record HandsUp (old : Receiving) (b : List ℕ) (n next : ℕ) (payload : List ℕ) (new : Receiving) : Type 0 where
   pub judged : Judges old.association old.window b n
   pub taken : TakesNumber old n new
   pub contents : IsContents b next payload
 
--- the packet is judged as n, which is taken, and has no contents to hand up
+-- the packet is judged as n, which is taken, and has no contents to deliver
 pub record WastesNumber (old : Receiving) (b : List ℕ) (n : ℕ) (new : Receiving) : Type 0 where
   pub judged : Judges old.association old.window b n
   pub taken : TakesNumber old n new
   pub contents : (next : ℕ) (payload : List ℕ) → ¬ IsContents b next payload
 
--- The packet is refused. Only bad padding leaves its number taken; every other refusal changes nothing. want
--- says whether taking a number may want memory.
+-- The packet is refused. Only bad padding leaves its sequence number taken; every other refusal changes
+-- nothing. want says whether taking a number may want memory.
 abbrev pub Refuses : Type 0 → Receiving → List ℕ → EspFault → Receiving → Type 0
 Refuses want old b BadPadding new = (n : ℕ) × WastesNumber old b n new
 Refuses want old b Memory new = want × ((n : ℕ) × Judges old.association old.window b n) × (new ≡ old)

@@ -8,13 +8,13 @@ use Rattle.esp.specs.declared.fault.EspFault.{EspFault}
 use Rattle.esp.specs.declared.fault.ListStop.{ListStop}
 use Rattle.esp.specs.declared.fault.EspFault.TheVariants.{Exhausted, PayloadSize, Memory}
 
--- b is a packet with number n that carries the payload, with no more padding than any such packet
+-- b is a packet with sequence number n that carries the payload, with no more padding than any such packet
 pub record IsShortestPacket (a : Sa) (n next : ℕ) (payload b : List ℕ) : Type 0 where
   pub p : ℕ
   pub packet : IsPacket a n next payload p b
   pub shortest : (q : ℕ) (c : List ℕ) → IsPacket a n next payload q c → p ≤ q
 
--- there is a number for one more packet
+-- there is a sequence number for one more packet
 abbrev pub HasNumber : Sending → Type 0
 HasNumber s = s.last + 1 < number_limit s.association.extended
 
@@ -22,7 +22,7 @@ HasNumber s = s.last + 1 < number_limit s.association.extended
 abbrev pub FitsPacket : List ℕ → Type 0
 FitsPacket payload = length payload ≤ 16384
 
--- the packet with number n is appended, and n is the last number from then on
+-- the packet with sequence number n is appended, and n is the last number from then on
 pub record Seals (old : Sending) (next : ℕ) (payload before : List ℕ) (n : ℕ) (new : Sending) (after : List ℕ) : Type 0 where
   pub has_number : HasNumber old
   pub fits : FitsPacket payload
@@ -32,8 +32,8 @@ pub record Seals (old : Sending) (next : ℕ) (payload before : List ℕ) (n : �
   pub appended : after ≡ before ++ packet
   pub shortest : IsShortestPacket old.association n next payload packet
 
--- why no packet was sealed, each where those before it don't apply: no number is left, the payload is too
--- long, memory
+-- why no packet was sealed, each where those before it don't apply: no sequence number is left, the payload
+-- is too long, memory
 abbrev pub IsSealRefusal : Sending → List ℕ → EspFault → Type 0
 IsSealRefusal s payload Exhausted = ¬ HasNumber s
 IsSealRefusal s payload PayloadSize = HasNumber s × (¬ FitsPacket payload)
@@ -50,7 +50,8 @@ SealRun old next (p ∷ ps) before new after =
 abbrev pub payloads_of : List (Bor (List ℕ)) → List (List ℕ)
 payloads_of payloads = map (λ payload. payload.now) payloads
 
--- The first k of these payloads were sealed in order, under consecutive numbers, and their packets appended.
+-- The first k of these payloads were sealed in order, under consecutive sequence numbers, and their packets
+-- appended.
 pub record SealsFirst (k : ℕ) (old : Sending) (next : ℕ) (payloads : List (List ℕ)) (before : List ℕ) (new : Sending) (after : List ℕ) : Type 0 where
   pub within : k ≤ length payloads
   -- payload by payload, as so many calls one after the other seal them

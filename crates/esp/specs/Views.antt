@@ -1,4 +1,4 @@
--- Associations as contracts see them: plain data.
+-- SAs as contracts see them: plain data.
 use Rattle.std.specs.Prelude.{ℕ, Bool, List, refl}
 use Rattle.std.specs.Ordering.{nat_cmp}
 use Rattle.std.specs.FinSet as set
@@ -6,12 +6,12 @@ use Rattle.std.specs.Coded.{Coded, code_by, coded×, coded_ℕ, coded_bool, code
 use Rattle.replay.specs.Window.{Seen}
 use Rattle.esp.specs.declared.sa.Sa.{Sa}
 
--- the sender's end: the association, and the last number that it sealed a packet with
+-- the sender's end: the SA, and the last sequence number that it sealed a packet with
 pub record Sending : Type 0 where
   pub association : Sa
   pub last : ℕ
 
--- the receiver's end: the association, and the replay window
+-- the receiver's end: the SA, and the replay window
 pub record Receiving : Type 0 where
   pub association : Sa
   pub window : Seen

@@ -1,4 +1,4 @@
--- A worked list of deliveries, for which the premise of the theorem is shown to hold.
+-- A worked list of deliveries, for which the assumption of the theorem is shown to hold.
 use Rattle.std.specs.Prelude.{◌≡◌, ℕ, Bool, true, false, List, [], ◌∷◌, Some, None, replicate, length}
 use Rattle.std.specs.FinSet as set
 use Rattle.std.specs.FinMap as map
@@ -17,11 +17,11 @@ abbrev pub worked_payload : List ℕ
 worked_payload =
     0x45 ∷ 0 ∷ 0 ∷ 0x14 ∷ 0 ∷ 0 ∷ 0 ∷ 0 ∷ 0x40 ∷ 1 ∷ 0 ∷ 0 ∷ 0x0a ∷ 0 ∷ 0 ∷ 1 ∷ 0x0a ∷ 1 ∷ 0 ∷ 1 ∷ []
 
--- the packet with number n that carries it
+-- the packet with sequence number n that carries it
 abbrev pub worked_packet : Bool → ℕ → List ℕ
 worked_packet extended n = packet (worked extended) n 4 worked_payload 2
 
--- without extension: number 7 is delivered, and delivered again
+-- without extension: sequence number 7 is delivered, and delivered again
 abbrev pub repeated : History
 repeated = record {
   association = worked false;
@@ -34,7 +34,8 @@ repeated = record {
 abbrev pub repeated_sent : map.FinMap nat_cmp (List ℕ)
 repeated_sent = map.insert map.empty 7 (worked_packet false 7)
 
--- with extension: the last number that 64 numbers below 2 ^ 32 leave in reach, and then 2 ^ 32 itself
+-- with extension: the last sequence number that 64 numbers below 2 ^ 32 leave in reach, and then 2 ^ 32
+-- itself
 abbrev pub crossing : History
 crossing = record {
   association = worked true;
@@ -47,13 +48,13 @@ crossing = record {
 abbrev pub crossing_sent : map.FinMap nat_cmp (List ℕ)
 crossing_sent = map.insert (map.insert map.empty 4294967232 (worked_packet true 4294967232)) 4294967296 (worked_packet true 4294967296)
 
--- the packets were judged so, and the premise holds of them
+-- the packets were judged so, and the assumption holds of them
 pub record IsWorked (h : History) (sent : map.FinMap nat_cmp (List ℕ)) : Type 0 where
   pub judged : IsJudged h
   pub unforged : Unforged h sent
 
 -- what a sealed packet is to its receiver: it has a length that is judged, passes the integrity check under
--- its number, and carries its payload and no other
+-- its sequence number, and carries its payload and no other
 pub record IsOpenable (a : Sa) (n next : ℕ) (payload b : List ℕ) : Type 0 where
   pub whole : IsJudgedLength (length b)
   pub intact : PassesIntegrity a n b

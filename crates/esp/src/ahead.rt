@@ -1,4 +1,4 @@
-//! Check values of received packets, computed side by side before the packets are judged.
+//! ICVs of received packets, computed side by side before the packets are judged.
 ghost use Rattle.std.specs.Prelude.{◌≡◌, ℕ, ◌-◌, ◌<◌, ◌≤◌, All, List, None, get_or, length, map, take};
 ghost use Rattle.lanes.specs.Task.{icv_of};
 ghost use Rattle.esp.specs.declared.sa.Sa.{Sa};
@@ -10,27 +10,27 @@ use crate::packet::CHECK;
 use crate::sa::Sa;
 use lanes::{Task, icv_all};
 
-/// A packet whose check value is computed ahead.
+/// A packet whose ICV is computed ahead.
 #[derive(Clone, Copy)]
 pub struct Asked {
     /// Its place in the group.
     pub place: usize,
-    /// The number that it has as the receiver is at the group's head.
+    /// The sequence number that it has as the receiver is at the group's head.
     pub number: u64,
-    /// The high half of that number.
+    /// The high half of that sequence number.
     pub half: [u8; 4],
 }
 
-/// A check value that was computed ahead.
+/// An ICV that was computed ahead.
 #[derive(Clone, Copy)]
 pub struct Ahead {
-    /// The number that it was computed for.
+    /// The sequence number that it was computed for.
     pub number: u64,
-    /// The check value of the packet with this number.
+    /// The ICV of the packet with this sequence number.
     pub value: [u8; CHECK],
 }
 
-/// The check value computed ahead for the packet at a place, if there is one.
+/// The ICV computed ahead for the packet at a place, if there is one.
 pub fn ahead_at(ahead: &[Option<Ahead>], place: usize) -> Option<Ahead>
     ensures { result ≡ get_or ahead.now place None }
 {
@@ -40,7 +40,7 @@ pub fn ahead_at(ahead: &[Option<Ahead>], place: usize) -> Option<Ahead>
     }
 }
 
-/// The check values of the packets that are asked for, each at its packet's place.
+/// The ICVs of the packets that are asked for, each at its packet's place.
 pub fn values_ahead(association: &Sa, packets: &[&[u8]], asked: &[Asked]) -> [Option<Ahead>; GROUP]
     requires few { length asked.now ≤ GROUP }
     requires room { length packets.now ≤ GROUP }
@@ -55,7 +55,7 @@ pub fn values_ahead(association: &Sa, packets: &[&[u8]], asked: &[Asked]) -> [Op
     placed(asked, &values[..count])
 }
 
-// What is asked of each packet: its covered octets, and the half of its number that is not sent.
+// What is asked of each packet: its covered octets, and the half of its sequence number that is not sent.
 fn tasks_for<'a>(association: &'a Sa, packets: &[&'a [u8]], asked: &'a [Asked]) -> [Task<'a>; GROUP]
     requires few { length asked.now ≤ GROUP }
     requires asked { All (IsAsked (octets_of packets.now)) asked.now }
@@ -69,7 +69,7 @@ fn tasks_for<'a>(association: &'a Sa, packets: &[&'a [u8]], asked: &'a [Asked]) 
     tasks
 }
 
-// The octets of a packet that its check value covers.
+// The octets of a packet that its ICV covers.
 fn covered_of(packet: &[u8]) -> &[u8]
     requires { CHECK ≤ length packet.now }
     ensures { result.now ≡ take (length packet.now - CHECK) packet.now }

@@ -1,4 +1,4 @@
-//! Check values of packets that lie one after the other, computed side by side.
+//! ICVs of packets that lie one after the other, computed side by side.
 ghost use Rattle.std.specs.Prelude.{◌≡◌, ℕ, ◌+◌, ◌^◌, ◌<◌, ◌≤◌, [], length, get_or, map, take};
 ghost use Rattle.lanes.specs.Task.{icv_of};
 ghost use Rattle.esp.specs.Laying.{AreHighHalves, covered_sizes, packets_size, values_in, with_values};
@@ -8,11 +8,11 @@ use crate::packet::{CHECK, covered_size, high_half};
 use crate::sa::Sa;
 use lanes::{Task, icv_all};
 
-/// How many check values are computed at once.
+/// How many ICVs are computed at once.
 pub const GROUP: usize = 64;
 
-/// Writes the check values of packets that lie one after the other and carry these payloads, with the numbers
-/// after `last`.
+/// Writes the ICVs of packets that lie one after the other and carry these payloads, with the sequence
+/// numbers after `last`.
 pub fn write_check_values(association: &Sa, last: u64, payloads: &[&[u8]], packets: &mut [u8])
     requires few { length payloads.now ≤ GROUP }
     requires fit { (i : ℕ) → i < length payloads.now → FitsPacket (get_or (payloads_of payloads.now) i []) }
@@ -27,7 +27,7 @@ pub fn write_check_values(association: &Sa, last: u64, payloads: &[&[u8]], packe
     write_all(payloads, &values[..count], packets);
 }
 
-// Computes the check value of each packet.
+// Computes the ICV of each packet.
 fn compute_all(
     association: &Sa,
     last: u64,
@@ -47,7 +47,7 @@ fn compute_all(
     icv_all(&tasks[..payloads.len()], values);
 }
 
-// What is asked of each packet: its covered octets, and the half of its number that is not sent.
+// What is asked of each packet: its covered octets, and the half of its sequence number that is not sent.
 fn tasks_of<'a>(
     association: &'a Sa,
     payloads: &[&[u8]],
@@ -71,7 +71,7 @@ fn tasks_of<'a>(
     tasks
 }
 
-// The high halves of so many numbers after `last`.
+// The high halves of so many sequence numbers after `last`.
 fn high_halves(last: u64, count: usize) -> [[u8; 4]; GROUP]
     requires few { count ≤ GROUP }
     requires numbers { last + count < 2 ^ 64 }
@@ -84,7 +84,7 @@ fn high_halves(last: u64, count: usize) -> [[u8; 4]; GROUP]
     halves
 }
 
-// Writes each check value behind the octets that it covers.
+// Writes each ICV behind the octets that it covers.
 fn write_all(payloads: &[&[u8]], values: &[[u8; CHECK]], packets: &mut [u8])
     requires fit { (i : ℕ) → i < length payloads.now → FitsPacket (get_or (payloads_of payloads.now) i []) }
     requires size { packets_size (covered_sizes payloads.now) ≤ length packets.old }

@@ -8,7 +8,7 @@ use thiserror::Error;
 /// Why a packet was not sealed or not opened.
 #[derive(Clone, Copy, Debug, PartialEq, Eq, Error)]
 pub enum EspFault {
-    /// The association's last number was used; it seals no more (RFC 4303 section 3.3.3).
+    /// The SA's last sequence number was used; it seals no more (RFC 4303 section 3.3.3).
     #[error("E12: the sequence numbers are exhausted")]
     Exhausted,
     /// The payload has more than 16,384 octets.
@@ -17,24 +17,24 @@ pub enum EspFault {
     /// The packet's length is not a multiple of 4, or below 28 or above 16,664 octets.
     #[error("E14: the packet's length is not that of a packet")]
     BadLength,
-    /// The packet's number lies below the replay window.
+    /// The packet's sequence number lies below the replay window.
     #[error("E15: the number lies below the replay window")]
     Old,
-    /// The packet's number was taken already.
+    /// The packet's sequence number was taken already.
     #[error("E16: the number was taken already")]
     Replayed,
-    /// The packet has no number: without extended numbers its low half is 0; with them nothing is recovered
-    /// from it (RFC 4303 appendix A2).
+    /// The packet has no sequence number: without ESN its low half is 0; with it nothing is recovered from it
+    /// (RFC 4303 appendix A2).
     #[error("E17: the packet has no sequence number")]
     BadNumber,
-    /// The check value is not that of the octets before it.
+    /// The ICV is not that of the octets before it.
     #[error("E18: the check value is wrong")]
     BadIcv,
-    /// The padding is not 1, 2, .. or doesn't fit. The packet's number stays taken.
+    /// The padding is not 1, 2, .. or doesn't fit. The packet's sequence number stays taken.
     #[error("E19: the padding is wrong")]
     BadPadding,
-    /// There was no memory for the packet to be sealed, or for the number in the replay window. Nothing was
-    /// changed.
+    /// There was no memory for the packet to be sealed, or for the sequence number in the replay window.
+    /// Nothing was changed.
     #[error("E20: no memory")]
     Memory,
 }

@@ -1,4 +1,4 @@
-//! The receiver's end of an association (RFC 4303 section 3.4).
+//! The receiver's end of an SA (RFC 4303 section 3.4).
 ghost use Rattle.std.specs.Prelude.{◌≡◌, ℕ, ◌+◌, ◌-◌, ◌≤◌, List, length, take, drop, vec_len};
 ghost use Rattle.std.specs.Prelude.{All, IsTrue, ◌↔◌, OnOk, IfOk, IfErr, IfSome, IfNone, IsOk};
 ghost use Rattle.std.specs.Vec.{vec_capacity};
@@ -23,7 +23,7 @@ use crate::{EspFault, ListFault, ListStop};
 use replay::{Judgement, Window, recover};
 use std::marker::Model;
 
-/// The receiver's end of an association: it opens packets, each at most once.
+/// The receiver's end of an SA: it opens packets, each at most once.
 #[derive(Drop)]
 pub struct Inbound<W: Window> {
     association: Sa,
@@ -43,7 +43,7 @@ impl<W: Window> Model for Inbound<W> {
 /// A packet that was opened.
 #[derive(Clone, Copy, Debug, PartialEq, Eq)]
 pub struct Opened<'a> {
-    /// The packet's sequence number, with the high half where numbers are extended.
+    /// The packet's sequence number, with the high half where ESN is used.
     pub number: u64,
     /// The next header: the protocol of the payload.
     pub next: u8,
@@ -52,8 +52,8 @@ pub struct Opened<'a> {
 }
 
 impl<W: Window> Inbound<W> {
-    /// The end with this SPI, key of 32 octets and replay window, which knows the numbers taken so far.
-    /// Numbers have 64 bits if `extended`, else 32.
+    /// The end with this SPI, key of 32 octets and replay window, which knows the sequence numbers taken so
+    /// far. Numbers have 64 bits if `extended`, else 32.
     pub fn new(spi: u32, key: &[u8; 32], extended: bool, window: W) -> Inbound<W>
         ensures { result ≡ record {
           association = record { spi = spi; key = key.now; extended = extended };
@@ -74,21 +74,21 @@ impl<W: Window> Inbound<W> {
         self.association.spi
     }
 
-    /// The key of its check values.
+    /// The key of its ICVs.
     pub fn key(&self) -> [u8; 32]
         ensures { result ≡ self.now.association.key }
     {
         self.association.key.octets()
     }
 
-    /// Whether its numbers have 64 bits, of which 32 are sent (RFC 4303 section 2.2.1), or 32.
+    /// Whether its sequence numbers have 64 bits, of which 32 are sent (RFC 4303 section 2.2.1), or 32.
     pub fn is_extended(&self) -> bool
         ensures { result ≡ self.now.association.extended }
     {
         self.association.extended
     }
 
-    /// The greatest number that its replay window has taken, 0 for none.
+    /// The greatest sequence number that its replay window has taken, 0 for none.
     pub fn top(&self) -> u64
         ensures { result ≡ self.now.window.top }
     {
@@ -102,22 +102,21 @@ impl<W: Window> Inbound<W> {
         let _ = &self.window;
     }
 
-    /// Opens a packet: judges it, takes its number, and hands up its payload as a part of it (RFC 4303
-    /// section 3.4). The caller asks only with packets that begin with the SPI, or are shorter than one.
+    /// Opens a packet: judges it, takes its sequence number, and delivers its payload as a part of it (RFC
+    /// 4303 section 3.4). The caller asks only with packets that begin with the SPI, or are shorter than one.
     ///
     /// Refused, in this order, with nothing changed:
     /// - [`EspFault::BadLength`] unless the length is a multiple of 4 from 28 to 16,664 octets;
-    /// - [`EspFault::BadNumber`] where the low half of the number is 0, or, with extended numbers, where
+    /// - [`EspFault::BadNumber`] where the low half of the number is 0, or, with ESN, where
     ///   [`replay::recover`] finds none;
     /// - [`EspFault::Old`] where the number lies below the window, [`EspFault::Replayed`] where it was taken;
-    /// - [`EspFault::BadIcv`] where the last 16 octets are not the check value of the rest (RFC 4303 section
-    ///   3.4.4);
+    /// - [`EspFault::BadIcv`] where the last 16 octets are not the ICV of the rest (RFC 4303 section 3.4.4);
     /// - [`EspFault::Memory`] where the window wants memory to take the number.
     ///
     /// Then the number is taken, and [`EspFault::BadPadding`] leaves it so.
     ///
-    /// No memory but the window's is taken, and nothing is copied. A packet whose check value covers n octets
-    /// costs ceil((n + 9) / 64) + 1 compressions of SHA-256.
+    /// No memory but the window's is taken, and nothing is copied. A packet whose ICV covers n octets costs
+    /// ceil((n + 9) / 64) + 1 compressions of SHA-256.
     pub fn open<'a>(&mut self, packet: &'a [u8]) -> Result<Opened<'a>, EspFault>
         requires { BeginsWithItsSpi self.old.association packet.now }
         ensures up { IfOk result (λ o. HandsUp self.old packet.now o.number o.next o.payload.now self.new) }
@@ -126,7 +125,7 @@ impl<W: Window> Inbound<W> {
         self.open_with(packet, None)
     }
 
-    /// What the check value of a packet is computed from, where the packet has a number that was not taken.
+    /// What the ICV of a packet is computed from, where the packet has a sequence number that was not taken.
     /// For [`precompute`](crate::precompute).
     pub fn question<'a>(&'a self, packet: &'a [u8]) -> Option<Question<'a>>
         ensures { IfSome result (IsQuestion packet.now) }
@@ -137,8 +136,8 @@ impl<W: Window> Inbound<W> {
         }
     }
 
-    /// Opens a packet as [`open`](Inbound::open) does. A check value that was computed before is used where
-    /// it was computed with this key, and for the number that the packet has now; else the packet's own is
+    /// Opens a packet as [`open`](Inbound::open) does. An ICV that was computed before is used where it was
+    /// computed with this key, and for the sequence number that the packet has now; else the packet's own is
     /// computed.
     pub fn open_ahead<'a>(
         &mut self,
@@ -154,7 +153,7 @@ impl<W: Window> Inbound<W> {
         self.open_with(packet, own)
     }
 
-    // The value that was computed before, where it was computed for this association.
+    // The value that was computed before, where it was computed for this SA.
     fn own_of(&self, ahead: Option<Precomputed>) -> Option<Ahead>
         ensures { (packet : List ℕ) → IfSome ahead (IsPrecomputed packet)
             → IfSome result (IsAhead self.now.association packet) }
@@ -165,7 +164,7 @@ impl<W: Window> Inbound<W> {
         }
     }
 
-    // Opens a packet as [`Inbound::open`] does, with its check value where it was computed ahead for its
+    // Opens a packet as [`Inbound::open`] does, with its ICV where it was computed ahead for its sequence
     // number.
     fn open_with<'a>(
         &mut self,
@@ -194,7 +193,7 @@ impl<W: Window> Inbound<W> {
         })
     }
 
-    // The packet's number, if it has one that was not taken.
+    // The packet's sequence number, if it has one that was not taken.
     fn fresh_number(&self, packet: &[u8]) -> Result<u64, EspFault>
         ensures fresh { IfOk result (IsFreshNumber self.now packet.now) }
         ensures refused { IfErr result (IsOpeningRefusal self.now.association self.now.window packet.now) }
@@ -213,7 +212,7 @@ impl<W: Window> Inbound<W> {
         }
     }
 
-    // The number that a low half stands for.
+    // The sequence number that a low half stands for.
     fn number_of(&self, low: u32) -> Option<u64>
         ensures some { IfSome result (IsNumber self.now.association.extended self.now.window low) }
         ensures none { IfNone result
@@ -226,7 +225,7 @@ impl<W: Window> Inbound<W> {
         }
     }
 
-    // Whether the packet's last octets are the check value for this number over the rest. A value that was
+    // Whether the packet's last octets are the ICV for this sequence number over the rest. A value that was
     // computed ahead for another number is of no use.
     fn is_intact(&self, packet: &[u8], number: u64, ahead: Option<Ahead>) -> bool
         requires long { 16 ≤ length packet.now }
@@ -245,23 +244,23 @@ impl<W: Window> Inbound<W> {
     /// Opens packets in order, and appends for each what [`open`](Inbound::open) answers of it. The caller
     /// asks only with packets whose first four octets, where there are four, are the SPI.
     ///
-    /// Whatever was delivered, no number is judged twice. If nothing but what was sent passes the integrity
-    /// check, a packet is judged exactly at its first delivery at which its number is rightly recovered and
-    /// lies inside or above the window; at every other delivery nothing is handed up and no number is
-    /// taken. A packet that is refused for memory counts as not delivered.
+    /// Whatever was delivered, no sequence number is accepted twice. If nothing but what was sent passes the
+    /// integrity check, a packet is accepted exactly at its first delivery at which its number is rightly
+    /// recovered and lies inside or above the window; at every other delivery no payload is delivered and no
+    /// number is taken. A packet that is refused for memory counts as not delivered.
     ///
     /// Stopped by [`ListFault::NoRoom`], after so many packets as the refusal says, where there was no
     /// memory for the next answer. The place of an answer is reserved before its packet is opened: none is
     /// opened without its answer.
     ///
-    /// Check values are computed side by side, for at most 64 packets at a time, where that gains time:
-    /// those of the packets that pass length, number and window as they are at the head of the group.
-    /// Packets are judged one after the other all the same, and where another number is recovered when a
-    /// packet's turn comes its check value is computed again, alone.
+    /// ICVs are computed side by side, for at most 64 packets at a time, where that gains time: those of the
+    /// packets that pass length, number and window as they are at the head of the group. Packets are judged
+    /// one after the other all the same, and where another number is recovered when a packet's turn comes its
+    /// ICV is computed again, alone.
     ///
-    /// No value is computed ahead of a packet that is refused before its check value at the head of its
-    /// group; one that an earlier packet of its group makes old or replayed costs its own. No memory is
-    /// taken but for `out` and the window.
+    /// No value is computed ahead of a packet that is refused before its ICV at the head of its group; one
+    /// that an earlier packet of its group makes old or replayed costs its own. No memory is taken but for
+    /// `out` and the window.
     pub fn open_all<'a>(
         &mut self,
         packets: &[&'a [u8]],
@@ -310,8 +309,8 @@ impl<W: Window> Inbound<W> {
         Ok(())
     }
 
-    // Opens packets in order, at most as many as a group has; answers how many. Check values are computed
-    // ahead where that gains time: a list of one packet, as most are, needs none of the arrays.
+    // Opens packets in order, at most as many as a group has; answers how many. ICVs are computed ahead where
+    // that gains time: a list of one packet, as most are, needs none of the arrays.
     fn answer_group<'a>(
         &mut self,
         packets: &[&'a [u8]],
@@ -337,7 +336,7 @@ impl<W: Window> Inbound<W> {
         self.answer_with(packets, &ahead, out)
     }
 
-    // The packets that have a number that was not taken, as the receiver is now; and how many.
+    // The packets that have a sequence number that was not taken, as the receiver is now; and how many.
     fn fresh_packets(&self, packets: &[&[u8]]) -> ([Asked; GROUP], usize)
         requires { length packets.now ≤ GROUP }
         ensures asked { All (IsAsked (octets_of packets.now)) (take result.1 result.0) }
@@ -363,8 +362,8 @@ impl<W: Window> Inbound<W> {
         (asked, count)
     }
 
-    // Opens packets in order, each after the place of its answer was reserved, with the check values that
-    // were computed ahead; answers how many.
+    // Opens packets in order, each after the place of its answer was reserved, with the ICVs that were
+    // computed ahead; answers how many.
     fn answer_with<'a>(
         &mut self,
         packets: &[&'a [u8]],

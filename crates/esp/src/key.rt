@@ -1,9 +1,8 @@
-//! The key of an association.
+//! The key of an SA.
 use lanes::LaneKey;
 use std::marker::Model;
 
-/// The integrity key of an association, 32 octets, prepared once for HMAC-SHA-256-128 (RFC 4868), alone and
-/// in lanes.
+/// The integrity key of an SA, 32 octets, prepared once for HMAC-SHA-256-128 (RFC 4868), alone and in lanes.
 ///
 /// A contract sees the key's octets.
 #[derive(Drop)]
@@ -42,7 +41,7 @@ impl IntegrityKey {
         self.octets
     }
 
-    /// The key as check values are computed with it.
+    /// The key as ICVs are computed with it.
     pub fn prepared(&self) -> &LaneKey
         ensures { result.now ≡ self.now }
     {

@@ -1,5 +1,5 @@
 //! Facts about the definitions, each the contract of a function that does nothing: what a sealed packet is to
-//! its receiver, what calls in a row are, that sealing and judging are determined, and that the premise of
+//! its receiver, what calls in a row are, that sealing and judging are determined, and that the assumption of
 //! the theorem on deliveries can be met.
 ghost use Rattle.std.specs.Prelude.{◌≡◌, ◌≢◌, ℕ, ◌+◌, List, ◌++◌, length, Option, Ok, Err};
 ghost use Rattle.replay.specs.Window.{IsSoundWindow};
@@ -15,7 +15,7 @@ ghost use Rattle.esp.specs.Worked.{IsOpenable, IsWorked, repeated, repeated_sent
 use replay::{BlockWindow, Window};
 
 /// What [`Outbound::seal`](crate::Outbound::seal) appends has a length that is judged, passes the integrity
-/// check under its number, and carries its payload and no other.
+/// check under its sequence number, and carries its payload and no other.
 pub fn sealed_packets_open()
     ensures { (a : Sa) (n next : ℕ) (payload b : List ℕ)
         → IsShortestPacket a n next payload b → FitsPacket payload → IsOpenable a n next payload b }
@@ -37,7 +37,7 @@ pub fn lists_in_a_row_are_one_list()
         → SealsFirst (length ps + k) s next (ps ++ qs) before u after }
 {}
 
-/// A packet that [`Inbound::open`](crate::Inbound::open) hands up is one step of a run, as one of a list is.
+/// A packet that [`Inbound::open`](crate::Inbound::open) delivers is one step of a run, as one of a list is.
 pub fn handed_up_packets_are_steps<W: Window>()
     ensures { (r s : Receiving) (b : List ℕ) (o : Opened)
         → HandsUp r b o.number o.next o.payload.now s → Step W.may_want r b (Ok o) s }
@@ -49,8 +49,8 @@ pub fn runs_in_a_row_are_one_run<W: Window>()
         → Run W.may_want r bs xs s → Run W.may_want s cs ys t → Run W.may_want r (bs ++ cs) (xs ++ ys) t }
 {}
 
-/// What is promised of one list of deliveries holds of every run, over however many calls: no number is
-/// judged twice, and where no check value was forged each sent packet is judged exactly at its first delivery
+/// What is promised of one list of deliveries holds of every run, over however many calls: no sequence number
+/// is accepted twice, and where no ICV was forged each sent packet is accepted exactly at its first delivery
 /// within reach.
 pub fn every_run_judges_at_most_once<W: Window>()
     ensures { (r s : Receiving) (bs : List (List ℕ)) (xs : List Answer)
@@ -58,14 +58,14 @@ pub fn every_run_judges_at_most_once<W: Window>()
 {}
 
 /// How a list of packets is judged is determined by the receiver and the packets: there is one list of
-/// numbers.
+/// sequence numbers.
 pub fn judging_is_determined()
     ensures { (r : Receiving) (bs : List (List ℕ)) (ns ms : List (Option ℕ))
         → IsJudged (history r bs ns) → IsJudged (history r bs ms) → ns ≡ ms }
 {}
 
-/// The premise that no check value was forged is met: by a packet that comes twice, and with extended numbers
-/// by two packets across 2^32.
+/// The assumption that no ICV was forged is met: by a packet that comes twice, and with ESN by two packets
+/// across 2^32.
 pub fn premise_is_met()
     ensures repeated { IsWorked repeated repeated_sent }
     ensures crossing { IsWorked crossing crossing_sent }

@@ -1,14 +1,14 @@
-//! ESP in tunnel mode, one association at a time: packets are sealed and opened (RFC 4303 sections 2 and
-//! 3), with NULL encryption (RFC 2410) and HMAC-SHA-256-128 (RFC 4868).
+//! ESP in tunnel mode, one SA at a time: packets are sealed and opened (RFC 4303 sections 2 and 3), with NULL
+//! encryption (RFC 2410) and HMAC-SHA-256-128 (RFC 4868).
 //!
-//! An [`Outbound`] seals payloads into packets with rising numbers. An [`Inbound`] opens packets: each
-//! number is judged at most once, and a packet only if its check value is right. It is generic in the
-//! replay window, and over a `BlockWindow` opening takes no memory.
+//! An [`Outbound`] seals payloads into packets with rising sequence numbers. An [`Inbound`] opens packets:
+//! each number is accepted at most once, and a packet only if its ICV is right. It is generic in the replay
+//! window, and over a `BlockWindow` opening takes no memory.
 //!
 //! Lists are sealed by [`Outbound::seal_all`] and opened by [`Inbound::open_all`], with the outcome of as
-//! many calls for one packet in order. Only their check values are computed side by side, by crate `lanes`,
-//! for at most 64 packets at a time; those of fewer than six packets, or of up to sixteen that are too
-//! unequal in length to gain by it, one by one. Packets are laid out, judged and taken one after the other.
+//! many calls for one packet in order. Only their ICVs are computed side by side, by crate `lanes`, for at
+//! most 64 packets at a time; those of fewer than six packets, or of up to sixteen that are too unequal in
+//! length to gain by it, one by one. Packets are laid out, judged and taken one after the other.
 //!
 //! ```text
 //! let mut sender = Outbound::new(256, &key, false, 6);

@@ -1,4 +1,4 @@
-//! The sender's end of an association (RFC 4303 section 3.3).
+//! The sender's end of an SA (RFC 4303 section 3.3).
 ghost use Rattle.std.specs.Prelude.{◌≡◌, ◌≢◌, ℕ, ◌+◌, ◌<◌, ◌≤◌, ◌++◌, length, take, vec_len, replicate, IfOk, IfErr, OnOk};
 ghost use Rattle.std.specs.Vec.{vec_capacity};
 ghost use Rattle.esp.specs.Packet.{head, joined_parts, packet, trailer};
@@ -19,7 +19,7 @@ use std::marker::Model;
 // The padding is a beginning of these octets (RFC 4303 section 2.4).
 const PADDING: [u8; 3] = [1, 2, 3];
 
-/// The sender's end of an association: it seals payloads into packets.
+/// The sender's end of an SA: it seals payloads into packets.
 #[derive(Drop)]
 pub struct Outbound {
     association: Sa,
@@ -37,8 +37,8 @@ impl Model for Outbound {
 }
 
 impl Outbound {
-    /// The end with this SPI and key of 32 octets, which sealed its last packet with the number `last` (0
-    /// where there was none). Numbers have 64 bits if `extended`, else 32.
+    /// The end with this SPI and key of 32 octets, which sealed its last packet with the sequence number
+    /// `last` (0 where there was none). Numbers have 64 bits if `extended`, else 32.
     pub fn new(spi: u32, key: &[u8; 32], extended: bool, last: u64) -> Outbound
         ensures { result ≡ record {
           association = record { spi = spi; key = key.now; extended = extended };
@@ -59,35 +59,35 @@ impl Outbound {
         self.association.spi
     }
 
-    /// The key of its check values.
+    /// The key of its ICVs.
     pub fn key(&self) -> [u8; 32]
         ensures { result ≡ self.now.association.key }
     {
         self.association.key.octets()
     }
 
-    /// Whether its numbers have 64 bits, of which 32 are sent (RFC 4303 section 2.2.1), or 32.
+    /// Whether its sequence numbers have 64 bits, of which 32 are sent (RFC 4303 section 2.2.1), or 32.
     pub fn is_extended(&self) -> bool
         ensures { result ≡ self.now.association.extended }
     {
         self.association.extended
     }
 
-    /// The number of the last packet that was sealed: what [`Outbound::new`] was given, before the first.
+    /// The sequence number of the last packet that was sealed: what [`Outbound::new`] was given, before the
+    /// first.
     pub fn last(&self) -> u64
         ensures { result ≡ self.now.last }
     {
         self.last
     }
 
-    /// Appends to `out` the packet that carries `payload` under the next header `next`, with the number after
-    /// the last and the least padding, and answers its number (RFC 4303 section 3.3).
+    /// Appends to `out` the packet that carries `payload` under the next header `next`, with the sequence
+    /// number after the last and the least padding, and answers its number (RFC 4303 section 3.3).
     ///
     /// Refused, with nothing changed, in this order: [`EspFault::Exhausted`] where the last number was 2^32 -
-    /// 1 or more, or 2^64 - 1 with extended numbers; [`EspFault::PayloadSize`] above 16,384 octets;
-    /// [`EspFault::Memory`].
+    /// 1 or more, or 2^64 - 1 with ESN; [`EspFault::PayloadSize`] above 16,384 octets; [`EspFault::Memory`].
     ///
-    /// A packet whose check value covers n octets costs ceil((n + 9) / 64) + 1 compressions of SHA-256.
+    /// A packet whose ICV covers n octets costs ceil((n + 9) / 64) + 1 compressions of SHA-256.
     pub fn seal(&mut self, next: u8, payload: &[u8], out: &mut Vec<u8>) -> Result<u64, EspFault>
         ensures sealed { IfOk result (λ number.
             Seals self.old next payload.now out.old.items number self.new out.new.items) }
@@ -107,14 +107,14 @@ impl Outbound {
     }
 
     /// Seals payloads in order, each as [`Outbound::seal`] does: appends their packets to `out`, one after
-    /// the other, with the numbers after the last.
+    /// the other, with the sequence numbers after the last.
     ///
     /// Refused where sealing one of them would be, in the same way: those before it were sealed then, and
     /// none after them.
     ///
-    /// Check values are computed side by side, for at most 64 packets at a time, where that gains time;
-    /// packets are laid out one after the other. Nothing is computed that isn't sent, and no memory is taken
-    /// but for `out`.
+    /// ICVs are computed side by side, for at most 64 packets at a time, where that gains time; packets are
+    /// laid out one after the other. Nothing is computed that isn't sent, and no memory is taken but for
+    /// `out`.
     pub fn seal_all(
         &mut self,
         next: u8,
@@ -182,7 +182,7 @@ impl Outbound {
         }
     }
 
-    // Seals payloads in order, with their check values computed side by side; answers how far they came.
+    // Seals payloads in order, with their ICVs computed side by side; answers how far they came.
     fn seal_side_by_side(&mut self, next: u8, payloads: &[&[u8]], out: &mut Vec<u8>) -> Progress
         requires { length payloads.now ≤ GROUP }
         ensures first { SealsFirst result.done self.old next (payloads_of payloads.now)
@@ -225,7 +225,7 @@ impl Outbound {
         }
     }
 
-    // Appends a packet, with zeros in the place of its check value. Refused as [`Outbound::seal`] is.
+    // Appends a packet, with zeros in the place of its ICV. Refused as [`Outbound::seal`] is.
     fn lay(&mut self, next: u8, payload: &[u8], out: &mut Vec<u8>) -> Result<(), EspFault>
         ensures laid { OnOk result (Lays self.old next payload.now out.old.items self.new out.new.items) }
         ensures refused { IfErr result (λ fault. IsSealRefusal self.old payload.now fault
@@ -241,7 +241,7 @@ impl Outbound {
         Ok(())
     }
 
-    // The number and the padding of the next packet, for which there is room from then on.
+    // The sequence number and the padding of the next packet, for which there is room from then on.
     fn prepare(&self, payload: &[u8], out: &mut Vec<u8>) -> Result<(u64, usize), EspFault>
         ensures ready { IfOk result (λ found. IsReady self.now payload.now found.0 found.1) }
         ensures enough { IfOk result (λ found.
@@ -293,7 +293,7 @@ fn append_packet(
     append(out, &[&check]);
 }
 
-// Appends a packet, for which there is room, with zeros in the place of its check value.
+// Appends a packet, for which there is room, with zeros in the place of its ICV.
 fn append_without_check_value(
     out: &mut Vec<u8>,
     association: &Sa,

@@ -1,5 +1,5 @@
-//! The layout of a packet (RFC 4303 section 2): the SPI in four octets, the low half of the number in four,
-//! the payload, padding, its length in one octet, the next header in one, and the check value in sixteen.
+//! The layout of a packet (RFC 4303 section 2): the SPI in four octets, the low half of the sequence number
+//! in four, the payload, padding, its length in one octet, the next header in one, and the ICV in sixteen.
 ghost use Rattle.std.specs.Prelude.{◌≡◌, ℕ, ◌+◌, ◌/◌, ◌%◌, ◌^◌, ◌<◌, ◌≤◌, ◌↔◌, List, [], ◌++◌, length, take, drop};
 ghost use Rattle.std.specs.Prelude.{IsTrue, if◌then◌else◌, IfSome, IfNone};
 ghost use Rattle.byteorder.specs.Endian.{big_bytes};
@@ -9,10 +9,10 @@ ghost use Rattle.esp.specs.Laying.{covered_size, pad_of};
 
 use byteorder::{BigEndian, ByteOrder};
 
-/// The octets before the payload: SPI and low half of the number.
+/// The octets before the payload: SPI and low half of the sequence number.
 pub const HEAD: usize = 8;
 
-/// The octets of the check value.
+/// The octets of the ICV.
 pub const CHECK: usize = 16;
 
 /// The octets of pad length and next header.
@@ -38,7 +38,7 @@ pub fn least_padding(payload: usize) -> usize
     (4 - (payload + TAIL) % 4) % 4
 }
 
-/// The octets that a check value covers in the packet of a payload of so many.
+/// The octets that an ICV covers in the packet of a payload of so many.
 pub fn covered_size(payload: usize) -> usize
     requires { payload ≤ PAYLOAD_LIMIT }
     ensures { result ≡ covered_size payload }
@@ -53,7 +53,7 @@ pub fn is_judged_length(octets: usize) -> bool
     octets % 4 == 0 && octets >= PACKET_LEAST && octets <= PACKET_LIMIT
 }
 
-/// SPI and low half of the number, as a packet begins.
+/// SPI and low half of the sequence number, as a packet begins.
 pub fn head_of(spi: u32, number: u64) -> [u8; 8]
     ensures { result ≡ big_bytes 4 spi ++ big_bytes 4 (number % 2 ^ 32) }
 {
@@ -63,8 +63,7 @@ pub fn head_of(spi: u32, number: u64) -> [u8; 8]
     head
 }
 
-/// The high half of a number, which is covered by the check value where numbers are extended and is never
-/// sent.
+/// The high half of a sequence number, which is covered by the ICV where ESN is used and is never sent.
 pub fn high_half(number: u64) -> [u8; 4]
     ensures { result ≡ big_bytes 4 (number / 2 ^ 32) }
 {
@@ -73,14 +72,14 @@ pub fn high_half(number: u64) -> [u8; 4]
     half
 }
 
-/// What of a number's high half the check value covers.
+/// What of a sequence number's high half the ICV covers.
 pub fn unsent_of(extended: bool, half: &[u8; 4]) -> &[u8]
     ensures { result.now ≡ (if extended then half.now else []) }
 {
     if extended { half } else { &[] }
 }
 
-/// The low half of a packet's number.
+/// The low half of a packet's sequence number.
 pub fn low_half_of(packet: &[u8]) -> u32
     requires { HEAD ≤ length packet.now }
     ensures { result ≡ low_half packet.now }
@@ -106,8 +105,8 @@ pub fn contents(packet: &[u8]) -> Option<(u8, usize)>
     }
 }
 
-/// Whether these octets are this check value. They are compared as one number, which takes less time than
-/// octet by octet.
+/// Whether these octets are this ICV. They are compared as one number, which takes less time than octet by
+/// octet.
 pub fn is_check_value(octets: &[u8], value: &[u8; CHECK]) -> bool
     requires { length octets.now ≡ CHECK }
     ensures { IsTrue result ↔ (octets.now ≡ value.now) }

@@ -1,5 +1,4 @@
-//! Check values of received packets, of one association or of several, computed side by side before the
-//! packets are opened.
+//! ICVs of received packets, of one SA or of several, computed side by side before the packets are opened.
 ghost use Rattle.std.specs.Prelude.{◌≡◌, ℕ, ◌<◌, ◌≤◌, All, IfSome, List, Option, length, map, take};
 ghost use Rattle.lanes.specs.Task.{icv_of};
 ghost use Rattle.esp.specs.declared.precomputed.Question.{Question};
@@ -14,8 +13,7 @@ use crate::sa::Sa;
 use lanes::{Task, icv_all};
 use std::convert::AsSlice;
 
-/// What the check value of a packet is computed from: made by
-/// [`Inbound::question`](crate::Inbound::question).
+/// What the ICV of a packet is computed from: made by [`Inbound::question`](crate::Inbound::question).
 #[derive(Clone, Copy)]
 pub struct Question<'a> {
     association: &'a Sa,
@@ -24,9 +22,9 @@ pub struct Question<'a> {
     covered: &'a [u8],
 }
 
-/// A check value that was computed before its packet is opened, with all that it was computed from beside the
+/// An ICV that was computed before its packet is opened, with all that it was computed from beside the
 /// packet. Whoever opens the packet compares that with what it is then, so it does no harm if the window
-/// moved meanwhile, or another association came.
+/// moved meanwhile, or another SA came.
 #[derive(Clone, Copy)]
 pub struct Precomputed {
     key: [u8; 32],
@@ -35,7 +33,7 @@ pub struct Precomputed {
     value: [u8; CHECK],
 }
 
-// A packet whose check value is computed in a lane.
+// A packet whose ICV is computed in a lane.
 #[derive(Clone, Copy)]
 struct Asked<'a> {
     // Its place in the group.
@@ -52,7 +50,7 @@ impl AsSlice<u8> for Asked<'_> {
 }
 
 impl<'a> Question<'a> {
-    // What the check value of a packet with this number is computed from.
+    // What the ICV of a packet with this sequence number is computed from.
     pub(crate) fn new(association: &'a Sa, number: u64, packet: &'a [u8]) -> Question<'a>
         requires { CHECK ≤ length packet.now }
         ensures { IsQuestion packet.now result }
@@ -89,7 +87,7 @@ impl<'a> Question<'a> {
 }
 
 impl Precomputed {
-    // The value, if it was computed with this association's key, and for numbers of the length that it has.
+    // The value, if it was computed with this SA's key, and for sequence numbers of the length that it has.
     // Both keys are this end's own, so nobody learns anything by the time that it takes to compare them.
     pub(crate) fn under(&self, association: &Sa) -> Option<Ahead>
         ensures { (packet : List ℕ) → IsPrecomputed packet self.now
@@ -108,8 +106,8 @@ impl Precomputed {
     }
 }
 
-/// The check values that are asked for, each at the place of its question, where it gains time to compute
-/// them side by side. Takes no memory.
+/// The ICVs that are asked for, each at the place of its question, where it gains time to compute them side
+/// by side. Takes no memory.
 pub fn precompute(questions: &[Option<Question<'_>>]) -> [Option<Precomputed>; GROUP]
     requires few { length questions.now ≤ GROUP }
     ensures { (packets : ℕ → List ℕ) → AreQuestions packets questions.now

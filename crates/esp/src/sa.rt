@@ -1,4 +1,4 @@
-//! What the two ends of a one-way association agree on.
+//! What the two ends of a one-way SA agree on.
 ghost use Rattle.std.specs.Prelude.{◌≡◌, ◌+◌, ◌<◌, ◌++◌, [], if◌then◌else◌, IfSome, IfNone};
 ghost use Rattle.lanes.specs.Task.{icv_of};
 ghost use Rattle.mac.specs.Hmac.{icv_sha256};
@@ -8,7 +8,7 @@ use crate::key::IntegrityKey;
 use crate::packet::{CHECK, high_half, unsent_of};
 use lanes::Task;
 
-/// What the two ends of a one-way association agree on (RFC 4301 section 4.1).
+/// What the two ends of a one-way SA agree on (RFC 4301 section 4.1).
 #[derive(Drop)]
 pub struct Sa {
     /// The security parameters index, which each of its packets begins with.
@@ -20,7 +20,7 @@ pub struct Sa {
 }
 
 impl Sa {
-    /// The number after `last`, if there is one.
+    /// The sequence number after `last`, if there is one.
     pub fn number_after(&self, last: u64) -> Option<u64>
         ensures some { IfSome result (λ n. (n ≡ last + 1) × (n < number_limit self.now.extended)) }
         ensures none { IfNone result (¬ (last + 1 < number_limit self.now.extended)) }
@@ -33,8 +33,8 @@ impl Sa {
         (last < most).then(|| last + 1)
     }
 
-    /// The check value of the packet with this number over its octets from SPI to next header, and over the
-    /// high half of the number where numbers are extended (RFC 4303 sections 2.2.1 and 2.8).
+    /// The ICV of the packet with this sequence number over its octets from SPI to next header, and over the
+    /// high half of the number where ESN is used (RFC 4303 sections 2.2.1 and 2.8).
     ///
     /// Over n octets in all it costs ceil((n + 9) / 64) + 1 compressions of SHA-256.
     pub fn check_value(&self, number: u64, covered: &[u8]) -> [u8; CHECK]
@@ -43,8 +43,8 @@ impl Sa {
         self.task(covered, &high_half(number)).icv()
     }
 
-    /// What its check value is computed from: the octets of a packet from SPI to next header, and the high
-    /// half of its number where numbers are extended.
+    /// What its ICV is computed from: the octets of a packet from SPI to next header, and the high half of
+    /// its sequence number where ESN is used.
     pub fn task<'a>(&'a self, covered: &'a [u8], half: &'a [u8; 4]) -> Task<'a>
         ensures { icv_of result ≡ icv_sha256 self.now.key
             (covered.now ++ (if self.now.extended then half.now else [])) }

@@ -1,4 +1,4 @@
--- What counts of payloads that have what their fields allow has it too, and notices have it.
+-- What counts of payloads that have what their fields allow has it too, and notifications have it.
 use Rattle.std.proofs.Common.{◌≡◌, ◌==◌, ◌≤◌, ◌&&◌, ℕ, length, nat_le, Bool, true, false, if◌then◌else◌, List, [], ◌∷◌, Option, Some, None, option_and_then, refl, subst, arith}
 use Rattle.std.specs.List.{filter, AllByRecursion}
 use Rattle.std.proofs.lemmas.Bool.{leb-true}
@@ -76,7 +76,7 @@ notice_fits NoAdditionalSas fits = (record { protocol_fits = omega arith; kind_f
 notice_fits TsUnacceptable fits = (record { protocol_fits = omega arith; kind_fits = omega arith; spi_fits = record { some = omega arith; few = omega arith; fits = tt }; octets_fit = tt }, omega arith)
 notice_fits (Cookie octets) fits = (record { protocol_fits = omega arith; kind_fits = omega arith; spi_fits = record { some = omega arith; few = omega arith; fits = tt }; octets_fit = fits.fits }, omega (arith, fits.few))
 
--- what is read of a notice as a cookie
+-- what is read of a notification as a cookie
 pub record IsShort (octets : List ℕ) : Type 0 where
   pub some : 1 ≤ length octets
   pub few : length octets ≤ 64

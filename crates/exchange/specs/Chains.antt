@@ -10,7 +10,7 @@ abbrev pub IsRead : Plain → Option (List Payload) → Type 0
 IsRead plain None = (payloads : List Payload) → ¬ SpellsChain plain.first payloads plain.octets
 IsRead plain (Some payloads) = SpellsChain plain.first payloads plain.octets
 
--- the type of the first error notice (section 3.10.1); what spells no payloads tells none
+-- the type of the first error notification (section 3.10.1); what spells no payloads tells none
 abbrev pub error_of : Option (List Payload) → Option ℕ
 error_of None = None
 error_of (Some payloads) = first_error payloads

@@ -1,4 +1,4 @@
--- The payloads of a child (RFC 7296 sections 1.2 and 1.3.1).
+-- The payloads of a Child SA (RFC 7296 sections 1.2 and 1.3.1).
 use Rattle.std.specs.Prelude.{List, [], ◌∷◌}
 use Rattle.wire.specs.declared.payload.Payload.{Payload}
 use Rattle.wire.specs.declared.payload.Payload.TheVariants.{Sa, TsI, TsR}
@@ -17,7 +17,7 @@ child_payloads child = Sa child.proposals ∷ TsI child.ts_i ∷ TsR child.ts_r 
 abbrev pub offered : ChildOffer → ChildPayloads
 offered offer = record { proposals = offer.proposals.now; ts_i = offer.ts_i.now; ts_r = offer.ts_r.now }
 
--- what answers the child: its payloads, or the notice that refuses it (section 1.2)
+-- what answers the Child SA: its payloads, or the notification that refuses it (section 1.2)
 abbrev pub answering_payloads : ChildAnswer → List Payload
 answering_payloads (answered.Payloads child) = child_payloads child
 answering_payloads (answered.Notice notice) = payload_of_notice notice ∷ []

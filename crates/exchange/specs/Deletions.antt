@@ -15,7 +15,7 @@ abbrev pub is_deletion : ℕ → Payload → Bool
 is_deletion wanted (Delete protocol spis) = protocol == wanted
 is_deletion wanted _ = false
 
--- the association itself is to be deleted
+-- the IKE SA itself is to be deleted
 abbrev pub deletes_association : List Payload → Bool
 deletes_association payloads = list_any (is_deletion IKE_PROTOCOL) payloads
 

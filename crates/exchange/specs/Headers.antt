@@ -20,8 +20,8 @@ abbrev pub keys_of : Role → KeyRecord → Keys
 keys_of Initiator keys = initiator_keys keys
 keys_of Responder keys = responder_keys keys
 
--- Version 2.0. The flag I tells the association's original initiator, the flag R a response; the flag V is
--- sent clear.
+-- Version 2.0. The flag I tells the IKE SA's original initiator, the flag R a response; the flag V is sent
+-- clear.
 abbrev pub sent_header : ℕ → ℕ → ℕ → Role → Bool → ℕ → Header
 sent_header spi_i spi_r exchange sender response id =
     record {

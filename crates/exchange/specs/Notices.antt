@@ -1,4 +1,4 @@
--- Notices (RFC 7296 section 3.10).
+-- Notifications (RFC 7296 section 3.10).
 use Rattle.std.specs.Prelude.{◌<◌, ◌==◌, ◌&&◌, ℕ, Bool, false, Option, Some, None, List, [], ◌∷◌, length, nat_le, nat_lt, if◌then◌else◌}
 use Rattle.wire.specs.Numbers.{AUTHENTICATION_FAILED, COOKIE, INVALID_SYNTAX, NO_ADDITIONAL_SAS, NO_PROPOSAL_CHOSEN, TS_UNACCEPTABLE, UNSUPPORTED_CRITICAL_PAYLOAD}
 use Rattle.wire.specs.Sizes.{FitsData}
@@ -24,7 +24,7 @@ data_of_notice (UnsupportedCriticalPayload kind) = kind ∷ []
 data_of_notice (Cookie octets) = octets
 data_of_notice _ = []
 
--- a notice concerns the association that it comes under: it names no protocol and no SPI
+-- a notification concerns the IKE SA that it comes under: it names no protocol and no SPI
 abbrev pub payload_of_notice : Notice → Payload
 payload_of_notice n = Notify 0 [] (type_of_notice n) (data_of_notice n)
 
@@ -57,16 +57,17 @@ asked_cookie [] = None
 asked_cookie (p ∷ []) = cookie_in p
 asked_cookie (p ∷ q ∷ ps) = None
 
--- a notice INVALID_SYNTAX (section 3.10.1)
+-- an INVALID_SYNTAX notification (section 3.10.1)
 abbrev pub is_invalid_syntax : Payload → Bool
 is_invalid_syntax (Notify protocol spi kind octets) = kind == INVALID_SYNTAX
 is_invalid_syntax _ = false
 
--- the type of a notice that tells an error: one below 16384, since those from there on tell a status (section 3.10.1)
+-- the type of a notification that tells an error: one below 16384, since those from there on tell a status
+-- (section 3.10.1)
 abbrev pub error_in : Payload → Option ℕ
 error_in (Notify protocol spi kind octets) = if nat_lt kind 16384 then Some kind else None
 error_in _ = None
 
--- that of the first such notice
+-- that of the first such notification
 abbrev pub first_error : List Payload → Option ℕ
 first_error payloads = first_some error_in payloads

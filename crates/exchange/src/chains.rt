@@ -7,8 +7,8 @@ use base::Items;
 use std::alloc::{AllocError, Global};
 use wire::{Payload, WireFault, decode_chain};
 
-/// The payloads that octets spell, if they spell any (RFC 7296, section 3.2). An error is for want of
-/// memory alone.
+/// The payloads that octets spell, if they spell any (RFC 7296, section 3.2). The only error is an allocation
+/// failure.
 pub fn read_chain(alloc: Global, plain: &Plain) -> Result<Option<Items<Payload>>, AllocError>
     ensures { IfOk result (IsRead plain.now) }
 {

@@ -1,4 +1,4 @@
-//! The payloads of a child (RFC 7296, sections 1.2 and 1.3.1).
+//! The payloads of a Child SA (RFC 7296, sections 1.2 and 1.3.1).
 ghost use Rattle.std.specs.Prelude.{◌≡◌, ◌++◌, OnOk};
 ghost use Rattle.exchange.specs.Children.{answering_payloads, child_payloads};
 
@@ -7,7 +7,7 @@ use base::{Items, Selector};
 use std::alloc::{AllocError, Global};
 use wire::{Payload, Proposal};
 
-/// What a request says of a child, or its reply: the content of one SA, one TSi and one TSr payload (RFC
+/// What a request says of a Child SA, or its reply: the content of one SA, one TSi and one TSr payload (RFC
 /// 7296, sections 1.2 and 1.3.1).
 #[derive(Debug, Drop)]
 pub struct ChildPayloads {
@@ -20,7 +20,8 @@ pub struct ChildPayloads {
 }
 
 impl ChildPayloads {
-    /// Adds the three payloads behind those of a message: SA, TSi, TSr. An error is for want of memory alone.
+    /// Adds the three payloads behind those of a message: SA, TSi, TSr. The only error is an allocation
+    /// failure.
     pub fn append_to(self, payloads: &mut Items<Payload>) -> Result<(), AllocError>
         ensures { OnOk result (payloads.new ≡ payloads.old ++ child_payloads self) }
     {
@@ -36,7 +37,7 @@ impl ChildPayloads {
     }
 }
 
-/// What a request offers of a child, lent by the payloads that say it.
+/// What a request offers of a Child SA, lent by the payloads that say it.
 #[derive(Clone, Copy)]
 pub struct ChildOffer<'a> {
     /// The proposals, in the order of preference (RFC 7296, section 3.3).
@@ -47,18 +48,18 @@ pub struct ChildOffer<'a> {
     pub ts_r: &'a [Selector],
 }
 
-/// What answers the child that was asked for.
+/// What answers the Child SA that was asked for.
 #[derive(Debug, Drop)]
 pub enum ChildAnswer {
     /// It is made (RFC 7296, section 1.2).
     Payloads(ChildPayloads),
-    /// It is not, for the reason that this notice tells; the IKE association is none the less (section 1.2).
+    /// It is not, for the reason that this notification tells; the IKE SA is none the less (section 1.2).
     Notice(Notice),
 }
 
 impl ChildAnswer {
-    /// Adds its payloads behind those of a message: those of the child, or the notice. An error is for want
-    /// of memory alone.
+    /// Adds its payloads behind those of a message: those of the Child SA, or the notification. The only
+    /// error is an allocation failure.
     pub fn append_to(self, alloc: Global, payloads: &mut Items<Payload>) -> Result<(), AllocError>
         ensures { OnOk result (payloads.new ≡ payloads.old ++ answering_payloads self) }
     {

@@ -7,7 +7,7 @@ use std::alloc::{AllocError, Global};
 use wire::Payload;
 use wire::numbers::{ESP_PROTOCOL, IKE_PROTOCOL};
 
-/// Whether the association under which the payloads come is to be deleted itself (RFC 7296, section 1.4.1).
+/// Whether the IKE SA under which the payloads come is to be deleted itself (RFC 7296, section 1.4.1).
 pub fn deletes_association(payloads: &[Payload]) -> bool
     ensures { result ≡ deletes_association payloads.now }
 {

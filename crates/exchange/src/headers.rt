@@ -5,8 +5,8 @@ ghost use Rattle.exchange.specs.Headers.{is_initiator, keys_of, other_role, sent
 use suite::{KeyRecord, Keys};
 use wire::{Flags, Header};
 
-/// Which of the two ends one is: that which began, or that which answered. An association keeps the roles
-/// of its first exchange (RFC 7296, section 2.2); each exchange under it has its own.
+/// Which of the two ends one is: that which began, or that which answered. An IKE SA keeps the roles of its
+/// first exchange (RFC 7296, section 2.2); each exchange under it has its own.
 #[derive(Clone, Copy, Debug, PartialEq, Eq)]
 pub enum Role {
     Initiator,
@@ -31,8 +31,7 @@ impl Role {
         }
     }
 
-    /// The keys under which the end of this role seals, of an association that has these (RFC 7296, section
-    /// 2.14).
+    /// The keys under which the end of this role seals, of an IKE SA that has these (RFC 7296, section 2.14).
     pub fn keys(self, keys: &KeyRecord) -> Keys
         ensures { result ≡ keys_of self keys.now }
     {
@@ -44,7 +43,7 @@ impl Role {
 }
 
 /// The header of a message that an end of this role sends: version 2.0, the flag V clear, the flag I where
-/// the end is the association's original initiator, the flag R in responses alone (RFC 7296, section 3.1).
+/// the end is the IKE SA's original initiator, the flag R in responses alone (RFC 7296, section 3.1).
 pub fn sent_header(
     spi_i: u64,
     spi_r: u64,

@@ -41,8 +41,8 @@ pub fn what_counts_fits()
         → only_ts_r payloads ≡ Some selectors → FitsFields (TsR selectors) }
 {}
 
-/// A notice that fits is carried by a payload that has what its fields allow, of at most 72 octets. Does
-/// nothing.
+/// A notification that fits is carried by a payload that has what its fields allow, of at most 72 octets.
+/// Does nothing.
 pub fn notices_fit()
     ensures { (notice : Notice) → FitsNotice notice
         → FitsFields (payload_of_notice notice) × (size_of (payload_of_notice notice) ≤ 72) }

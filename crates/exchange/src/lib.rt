@@ -1,12 +1,12 @@
-//! What the messages of IKE's exchanges say (RFC 7296, sections 1 to 3): how payloads are sealed and
-//! opened, and which of them count. No association and no policy is known here.
+//! What the messages of IKE's exchanges say (RFC 7296, sections 1 to 3): how payloads are sealed and opened,
+//! and which of them count. No IKE SA and no policy is known here.
 //!
 //! [`seal_message`] makes a message of one encrypted payload from a message in clear, by the caller's
 //! [`Sealer`](suite::Sealer), and [`open_message`] takes it apart again. Of the payloads inside,
-//! [`unknown_critical`] finds what refuses a request, [`only_sa`] and its like those that count, a
-//! [`Notice`] is sent and [`leading_cookie`] and its like are read, and [`esp_spis`] tells what is to be
-//! deleted. [`ChildPayloads`] are what both messages say of a child; their proposals are offered, chosen,
-//! answered and accepted by [`suite::offer`] and the calls beside it.
+//! [`unknown_critical`] finds what refuses a request, [`only_sa`] and its like those that count, a [`Notice`]
+//! is sent and [`leading_cookie`] and its like are read, and [`esp_spis`] tells what is to be deleted.
+//! [`ChildPayloads`] are what both messages say of a Child SA; their proposals are offered, chosen, answered
+//! and accepted by [`suite::offer`] and the calls beside it.
 //!
 //! ```text
 //! seal_message(&sealer, &record.initiator_keys(), &message, &fresh.seal, &mut datagram)?;

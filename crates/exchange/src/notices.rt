@@ -1,4 +1,4 @@
-//! Notices (RFC 7296, section 3.10).
+//! Notifications (RFC 7296, section 3.10).
 ghost use Rattle.std.specs.Prelude.{◌≡◌, None, Some, IfOk, MatchOption};
 ghost use Rattle.std.specs.List.{list_any};
 ghost use Rattle.exchange.specs.Notices.{type_of_notice, data_of_notice, payload_of_notice, returned_cookie, cookie_in, error_in, first_error, leading_cookie, asked_cookie, is_invalid_syntax, FitsNotice};
@@ -15,10 +15,10 @@ use wire::numbers::{
 // The most octets of a cookie (section 2.6).
 const COOKIE_LIMIT: usize = 64;
 
-// The first type of a notice that tells a status; those below it tell errors (section 3.10.1).
+// The first type of a notification that tells a status; those below it tell errors (section 3.10.1).
 const FIRST_STATUS: u16 = 16384;
 
-/// A notice that is sent.
+/// A notification that is sent.
 #[derive(Clone, Copy, Debug, PartialEq, Eq)]
 pub enum Notice {
     /// A payload of this type is marked as critical and not known (RFC 7296, section 2.5).
@@ -30,7 +30,7 @@ pub enum Notice {
     NoProposalChosen,
     /// The peer did not prove its identity (section 2.21.2).
     AuthenticationFailed,
-    /// No further child is made (section 1.3).
+    /// No additional Child SA is made (section 1.3).
     NoAdditionalSas,
     /// No entry of the policy protects anything of the flows that were offered (section 2.9).
     TsUnacceptable,
@@ -54,7 +54,7 @@ impl Notice {
         }
     }
 
-    /// The payload that carries it, with protocol 0 and no SPI. An error is for want of memory alone.
+    /// The payload that carries it, with protocol 0 and no SPI. The only error is an allocation failure.
     pub fn payload(&self, alloc: Global) -> Result<Payload, AllocError>
         ensures { IfOk result (λ payload. payload ≡ payload_of_notice self.now) }
     {
@@ -86,8 +86,8 @@ impl Notice {
     }
 }
 
-/// The notice with which a request brings back the cookie that it was asked for (RFC 7296, section 2.6). An
-/// error is for want of memory alone.
+/// The notification with which a request brings back the cookie that it was asked for (RFC 7296, section
+/// 2.6). The only error is an allocation failure.
 pub fn returned_cookie(alloc: Global, octets: &[u8]) -> Result<Payload, AllocError>
     ensures { IfOk result (λ payload. payload ≡ returned_cookie octets.now) }
 {
@@ -119,7 +119,7 @@ pub fn asked_cookie(payloads: &[Payload]) -> Option<&[u8]>
     }
 }
 
-/// Whether one of the payloads is a notice INVALID_SYNTAX (RFC 7296, section 3.10.1).
+/// Whether one of the payloads is an INVALID_SYNTAX notification (RFC 7296, section 3.10.1).
 pub fn has_invalid_syntax(payloads: &[Payload]) -> bool
     ensures { result ≡ list_any is_invalid_syntax payloads.now }
 {
@@ -131,8 +131,9 @@ pub fn has_invalid_syntax(payloads: &[Payload]) -> bool
     false
 }
 
-/// The type of the first notice among the payloads that tells an error: one below 16384 (RFC 7296, section 3.10.1). `None` where there is
-/// none. Notices of other types tell a status, and are passed over.
+/// The type of the first notification among the payloads that tells an error: one below 16384 (RFC 7296,
+/// section 3.10.1). `None` where there is none. Notifications of other types tell a status, and are passed
+/// over.
 pub fn first_error(payloads: &[Payload]) -> Option<u16>
     ensures { result ≡ first_error payloads.now }
 {
@@ -145,7 +146,7 @@ pub fn first_error(payloads: &[Payload]) -> Option<u16>
     None
 }
 
-// Whatever protocol and SPI a notice names, its type and its data tell whether it is a cookie.
+// Whatever protocol and SPI a notification names, its type and its data tell whether it is a cookie.
 fn cookie_in(payload: &Payload) -> Option<&[u8]>
     ensures { MatchOption result (cookie_in payload.now ≡ None)
         (λ octets. cookie_in payload.now ≡ Some octets.now) }

@@ -45,7 +45,7 @@ pub fn has_ke(payloads: &[Payload]) -> bool
     false
 }
 
-/// Whether a proposal is for an IKE association (section 3.3.1).
+/// Whether a proposal is for an IKE SA (section 3.3.1).
 pub fn offers_ike(payloads: &[Payload]) -> bool
     ensures { result ≡ list_any (offers_protocol IKE_PROTOCOL) payloads.now }
 {
@@ -93,8 +93,7 @@ pub fn only(payloads: &[Payload], kind: u8) -> Option<&Payload>
     found
 }
 
-/// The proposals of the only security association payload (RFC 7296, section 3.3), `None` where there is
-/// not just one.
+/// The proposals of the only SA payload (RFC 7296, section 3.3), `None` where there is not just one.
 pub fn only_sa(payloads: &[Payload]) -> Option<&[Proposal]>
     ensures { MatchOption result (only_sa payloads.now ≡ None)
         (λ found. only_sa payloads.now ≡ Some found.now) }

@@ -104,8 +104,8 @@ fn sealed_head(alloc: Global, clear: &[u8], body: usize) -> Result<Vec<u8>, Allo
 }
 
 /// What a datagram's encrypted payload opens to under the sender's keys, where it is the message's only
-/// payload and its body opens (RFC 7296, section 3.14); `None` otherwise. An error is for want of memory
-/// alone. `message` is what the datagram spells.
+/// payload and its body opens (RFC 7296, section 3.14); `None` otherwise. The only error is an allocation
+/// failure. `message` is what the datagram spells.
 pub fn open_message<S: Sealer>(
     alloc: Global,
     sealer: &S,

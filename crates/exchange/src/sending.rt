@@ -1,4 +1,4 @@
-//! Messages as an end sends them, under the keys of an association.
+//! Messages as an end sends them, under the keys of an IKE SA.
 ghost use Rattle.std.specs.Prelude.{◌≡◌, IfOk};
 ghost use Rattle.exchange.specs.Headers.{keys_of};
 ghost use Rattle.exchange.specs.Sealed.{CanBeSealed, IsSealed};
@@ -9,7 +9,7 @@ use std::alloc::{AllocError, Global};
 use suite::{KeyRecord, Sealer};
 use wire::{Message, WireFault};
 
-/// The octets of a message that the end of this role seals. An error is for want of memory alone.
+/// The octets of a message that the end of this role seals. The only error is an allocation failure.
 pub fn sealed_message<S: Sealer>(
     alloc: Global,
     sealer: &S,

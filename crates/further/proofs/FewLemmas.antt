@@ -1,4 +1,4 @@
--- How many selectors a pair has.
+-- How many selectors an SA pair has.
 use Rattle.std.proofs.Common.{◌≡◌, ◌≤◌, ℕ, Bool, List, Option, Some, None, length}
 use Rattle.std.specs.List.{AllByRecursion}
 use Rattle.base.specs.Octets.{Octets}

@@ -25,7 +25,7 @@ child_fits child nonce fit octets =
     let few = octets.few in
     record { fields = (fit.fields.0, (octets, fit.fields.1)); short = omega arith }
 
--- what is said of notices
+-- what is said of Notify payloads
 abbrev pub NoticesFit : Type 0
 NoticesFit = (notice : Notice) → FitsNotice notice → FitsFields (payload_of_notice notice) × (size_of (payload_of_notice notice) ≤ 72)
 

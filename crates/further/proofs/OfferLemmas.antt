@@ -31,7 +31,7 @@ use Rattle.further.specs.declared.deciding.Decision.TheVariants as decision
 use Rattle.further.proofs.PairLemmas.{decided_as_sent, made_on, sent_child, MakesFurther}
 use Rattle.further.proofs.ReadingLemmas.{one_read, OneChain}
 
--- what is said of each child that is made
+-- what is said of each Child SA that is made
 abbrev pub AnswersIts : Type 0
 AnswersIts = (setting : Setting) (extended : Bool) (entries : List Entry) (table : Database) (offer : ChildPayloads) (made : Made)
     → IsMadeChild setting extended entries table offer made → AnswersOffer made.pair.remote offer.ts_i × AnswersOffer made.pair.local offer.ts_r
@@ -107,7 +107,7 @@ module _ (setup : Setup) (ike : ℕ) (keys : KeyRecord) (table : Database) (dele
       → made.pair.inbound.association.extended ≡ true → setup.config.extended ≡ true
   plain_extension_allowed law is = extension_by law is.payloads is.due
 
--- what is said of each pair that is accepted
+-- what is said of each SA pair that is accepted
 abbrev pub KeepsRequests : Type 0
 KeepsRequests = (setting : Setting) (asked : Asked) (answer : List Payload) (pair : Pair) → IsAcceptedChild setting asked answer pair → KeepsToRequest asked pair
 

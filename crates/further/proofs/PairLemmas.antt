@@ -1,4 +1,4 @@
--- What each end makes is its pair of the further child, and the two mirror each other.
+-- What each end makes is its SA pair of the additional Child SA, and the two mirror each other.
 use Rattle.std.proofs.Common.{◌≡◌, ◌<◌, ◌^◌, ◌||◌, ℕ, Bool, true, false, List, [], ◌∷◌, Option, Some, refl, sym, subst, ◌∙◌}
 use Rattle.std.proofs.lemmas.Option.{same_Some}
 use Rattle.std.specs.List.{list_any}
@@ -34,7 +34,7 @@ use Rattle.further.specs.declared.concluding.Conclusion.TheVariants as conclusio
 use Rattle.further.specs.declared.deciding.Decision.TheVariants as decision
 use Rattle.further.proofs.ReadingLemmas.{one_read, OneChain}
 
--- where a child is made, it was asked for
+-- where a Child SA is made, it was asked for
 pub record MakesFurther (setup : Setup) (ike : ℕ) (keys : KeyRecord) (table : Database) (deleting : Bool) (payloads : List Payload) (made : Made) : Type 0 where
   pub request : FurtherRequestView
   pub asks : AsksFor payloads deleting request

@@ -1,5 +1,5 @@
--- What an initiator makes of the answer to its request for a further child (RFC 7296 sections 1.3.1, 2.7,
--- 2.9, 2.17 and 2.21.3).
+-- What an initiator makes of the answer to its request for an additional Child SA (RFC 7296 sections 1.3.1,
+-- 2.7, 2.9, 2.17 and 2.21.3).
 use Rattle.std.specs.Prelude.{◌≡◌, ◌⊎◌, ℕ, true, false, Option, Some, None, List}
 use Rattle.std.specs.List.{list_any}
 use Rattle.base.specs.Octets.{Octets}
@@ -16,22 +16,23 @@ use Rattle.further.specs.Deciding.{further_setting}
 use Rattle.further.specs.declared.concluding.Conclusion.{Conclusion}
 use Rattle.further.specs.declared.concluding.Conclusion.TheVariants as conclusion
 
--- the answer doesn't tell that the request was not in the grammar; it has one nonce, and an acceptable
--- child under the keys that come of it
+-- the answer doesn't tell that the request was not in the grammar; it has one nonce, and an acceptable Child
+-- SA under the keys that come of it
 pub record AcceptsFurtherChild (blocks ike : ℕ) (keys : KeyRecord) (asked : Asked) (own_nonce : Octets) (answer : List Payload) (pair : Pair) : Type 0 where
   pub stands : list_any is_invalid_syntax answer ≡ false
   pub nonce : Octets
   pub alone : only_nonce answer ≡ Some nonce
   pub child : IsAcceptedChild (further_setting blocks ike keys own_nonce nonce) asked answer pair
 
--- it has no acceptable child, or not one nonce
+-- it has no acceptable Child SA, or not one nonce
 pub record HasNoChild (asked : Asked) (answer : List Payload) : Type 0 where
   pub stands : list_any is_invalid_syntax answer ≡ false
   pub none : (only_nonce answer ≡ None) ⊎ IsUnacceptable asked answer
 
--- By what is read: what is not in the grammar says nothing, and a notice INVALID_SYNTAX ends the association, also beside a complete child.
--- That any other notice brings about nothing, and that a critical payload which is not known is passed over, are rules of this
--- implementation, the latter against section 2.5.
+-- By what is read: what is not in the grammar says nothing, and a Notify payload INVALID_SYNTAX ends the IKE
+-- SA, also beside a complete Child SA. That any other Notify payload brings about nothing, and that a
+-- critical payload which is not known is passed over, are rules of this implementation, the latter against
+-- section 2.5.
 abbrev pub IsConclusion : ℕ → ℕ → KeyRecord → Asked → Octets → Option (List Payload) → Conclusion → Type 0
 IsConclusion blocks ike keys asked own_nonce None conclusion.Closes = ⊥
 IsConclusion blocks ike keys asked own_nonce None (conclusion.Made pair) = ⊥
@@ -45,7 +46,7 @@ pub record Concludes (blocks ike : ℕ) (keys : KeyRecord) (asked : Asked) (own_
   pub read : IsRead plain payloads
   pub due : IsConclusion blocks ike keys asked own_nonce payloads concluded
 
--- a pair that is made keeps to what was asked
+-- an SA pair that is made keeps to what was asked
 abbrev pub KeepsTo : Asked → Conclusion → Type 0
 KeepsTo asked conclusion.Closes = Unit {0}
 KeepsTo asked (conclusion.Made pair) = KeepsToRequest asked pair

@@ -1,4 +1,4 @@
--- What a responder decides about a request for a further child (RFC 7296 sections 1.3.1, 2.9, 2.17 and
+-- What a responder decides about a request for an additional Child SA (RFC 7296 sections 1.3.1, 2.9, 2.17 and
 -- 2.21.3).
 use Rattle.std.specs.Prelude.{◌≡◌, ℕ, Bool, true, false, Option, Some, None, List}
 use Rattle.base.specs.Octets.{Octets}
@@ -20,29 +20,29 @@ use Rattle.further.specs.Judging.{Admitted, FurtherJudgement, FurtherRequestView
 use Rattle.further.specs.declared.deciding.Decision.{Decision}
 use Rattle.further.specs.declared.deciding.Decision.TheVariants as decision
 
--- What a further child is made on: keys come from the association's SK_d and the nonces of the exchange,
+-- What an additional Child SA is made on: keys come from the IKE SA's SK_d and the nonces of the exchange,
 -- its initiator's first (section 2.17).
 abbrev pub further_setting : ℕ → ℕ → KeyRecord → Octets → Octets → Setting
 further_setting blocks ike keys ni nr = record { ike = ike; keys = child_keys keys.sk_d ni nr; blocks = blocks }
 
--- what the child of a request is made on, with this end's own nonce as the responder's
+-- what the Child SA of a request is made on, with this end's own nonce as the responder's
 abbrev pub responder_setting : Setup → ℕ → KeyRecord → FurtherRequestView → Setting
 responder_setting setup ike keys request = further_setting setup.config.blocks ike keys request.nonce setup.fresh.nonce
 
--- a decision, as the answer to the child that is offered
+-- a decision, as the answer to the Child SA that is offered
 abbrev pub response_of : Decision → Response
 response_of (decision.Refused notice) = response.Refused notice
 response_of (decision.Made made) = response.Made made
 
--- by a judgement: what it refuses is refused so, and what is asked for is answered as the first child of an
--- association is
+-- by a judgement: what it refuses is refused so, and what is asked for is answered as the first Child SA of
+-- an IKE SA is
 abbrev pub DecidesFurtherBy : Setup → ℕ → KeyRecord → Database → FurtherJudgement → Decision → Type 0
 DecidesFurtherBy setup ike keys table (Refused notice) (decision.Refused told) = told ≡ notice
 DecidesFurtherBy setup ike keys table (Refused notice) (decision.Made made) = ⊥
 DecidesFurtherBy setup ike keys table (Admitted request) decided =
     IsChildResponse (responder_setting setup ike keys request) setup.config.extended setup.entries table request.child (response_of decided)
 
--- by the payloads, while a request of this end to delete the IKE association is outstanding or not
+-- by the payloads, while a request of this end to delete the IKE SA is outstanding or not
 pub record DecidesFurtherOn (setup : Setup) (ike : ℕ) (keys : KeyRecord) (table : Database) (deleting : Bool) (payloads : List Payload) (decided : Decision) : Type 0 where
   pub judgement : FurtherJudgement
   pub judged : IsFurtherJudgement payloads deleting judgement
@@ -73,11 +73,11 @@ pub record IsFurtherRefusedAtOnce (deleting : Bool) (plain : Plain) : Type 0 whe
 abbrev pub FitsFurtherDecision : Decision → Type 0
 FitsFurtherDecision decided = FitsAnswer (answer_to_further decided)
 
--- the table can take the pair, where a child is made
+-- the table can take the SA pair, where a Child SA is made
 abbrev pub LeavesRoomForFurther : Decision → Database → Type 0
 LeavesRoomForFurther decided table = LeavesRoom (response_of decided) table
 
--- INVALID_SYNTAX alone ends the association (section 2.21.3)
+-- INVALID_SYNTAX alone ends the IKE SA (section 2.21.3)
 abbrev pub ends_association : Notice → Bool
 ends_association InvalidSyntax = true
 ends_association (UnsupportedCriticalPayload kind) = false

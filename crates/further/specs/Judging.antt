@@ -13,7 +13,7 @@ use Rattle.further.specs.declared.judging.FurtherRequest.{FurtherRequest}
 use Rattle.further.specs.declared.judging.Judgement.{Judgement}
 use Rattle.further.specs.declared.judging.Judgement.TheVariants as judged
 
--- what a request asks for, as plain data: the child, and the nonce that came with it
+-- what a request asks for, as plain data: the Child SA, and the nonce that came with it
 pub record FurtherRequestView : Type 0 where
   pub child : ChildPayloads
   pub nonce : Octets
@@ -30,9 +30,9 @@ abbrev pub judgement_view : Judgement → FurtherJudgement
 judgement_view (judged.Refused notice) = Refused notice
 judgement_view (judged.Asked request) = Admitted (further_request_view request)
 
--- An end may refuse to make any further Child SA, or to rekey the IKE SA (section 1.3). Here it does, by a
--- rule of this implementation, where a key exchange is asked for, or another IKE association in place of
--- this one, or while its own request to delete this one is outstanding (section 1.4.1).
+-- An end may refuse to make any additional Child SA, or to rekey the IKE SA (section 1.3). Here it does, by a
+-- rule of this implementation, where a key exchange is asked for, or another IKE SA in place of this one. So
+-- it does also while its own request to delete this one is outstanding (section 1.4.1).
 abbrev pub is_declined : List Payload → Bool → Bool
 is_declined payloads deleting = has_ke payloads || list_any (offers_protocol IKE_PROTOCOL) payloads || deleting
 
@@ -41,7 +41,7 @@ abbrev pub is_complete : List Payload → Bool
 is_complete payloads =
     is_some (only_sa payloads) && is_some (only_nonce payloads) && is_some (only_ts_i payloads) && is_some (only_ts_r payloads)
 
--- every payload that is critical is known (section 2.5), but no further child is to be made
+-- every payload that is critical is known (section 2.5), but no additional Child SA is to be made
 pub record IsDeclined (payloads : List Payload) (deleting : Bool) : Type 0 where
   pub known : unknown_critical payloads ≡ None
   pub declined : is_declined payloads deleting ≡ true

@@ -1,4 +1,4 @@
--- The pair that an end has of a further child (RFC 7296 sections 1.3.1 and 2.17).
+-- The SA pair that an end has of an additional Child SA (RFC 7296 sections 1.3.1 and 2.17).
 use Rattle.std.specs.Prelude.{◌≡◌, false, Some, List}
 use Rattle.base.specs.Octets.{Octets}
 use Rattle.wire.specs.declared.payload.Payload.{Payload}
@@ -9,8 +9,8 @@ use Rattle.exchange.specs.declared.headers.Role.{Role}
 use Rattle.sadb.specs.declared.pair.Pair.{Pair}
 use Rattle.children.specs.Pairs.{IsChild}
 
--- The pair is what the end of this role in the exchange has of the child that a request and its reply made.
--- Its keys come from the association's SK_d and the only nonce in each, since no key exchange took place
+-- The SA pair is what the end of this role in the exchange has of the Child SA that a request and its reply
+-- made. Its keys come from the IKE SA's SK_d and the only nonce in each, since no key exchange took place
 -- (section 2.17).
 pub record IsFurtherChild (role : Role) (keys : KeyRecord) (request reply : List Payload) (pair : Pair) : Type 0 where
   pub no_exchange : has_ke request ≡ false

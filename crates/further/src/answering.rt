@@ -1,4 +1,4 @@
-//! The answer to a request for a further child.
+//! The answer to a request for an additional Child SA.
 ghost use Rattle.std.specs.Prelude.{◌≡◌, IfOk};
 ghost use Rattle.exchange.specs.Sealed.{PAYLOADS_LIMIT};
 ghost use Rattle.auth.specs.Fitting.{FitWithin};
@@ -11,12 +11,12 @@ use exchange::laws::notices_fit;
 use std::alloc::{AllocError, Global};
 use wire::Payload;
 
-/// The payloads of the answer to a request for a further child (RFC 7296, section 1.3.1): SA, Nonce, TSi,
-/// TSr, with the nonce by which [`decide`](crate::decide) made the child, the step's fresh one; or one
-/// notice. They can be sealed.
+/// The payloads of the answer to a request for an additional Child SA (RFC 7296, section 1.3.1): SA, Nonce,
+/// TSi, TSr, with the nonce by which [`decide`](crate::decide) made the child, the step's fresh one; or one
+/// Notify payload. They can be sealed.
 ///
 /// The caller gives an answer that can be sent, as [`Decision::into_parts`](crate::Decision::into_parts)
-/// does. An error is for want of memory alone.
+/// does. The only error is an allocation failure.
 pub fn answer_payloads(
     alloc: Global,
     answer: ChildAnswer,

@@ -1,4 +1,4 @@
-//! The request for a further child.
+//! The request for an additional Child SA.
 ghost use Rattle.std.specs.Prelude.{◌≡◌, IfOk};
 ghost use Rattle.exchange.specs.Sealed.{PAYLOADS_LIMIT};
 ghost use Rattle.auth.specs.Fitting.{FitWithin};
@@ -13,11 +13,11 @@ use children::laws::payloads_fit;
 use std::alloc::{AllocError, Global};
 use wire::Payload;
 
-/// The payloads of a request for a further child (RFC 7296, section 1.3.1): SA, Nonce, TSi, TSr, with what
-/// [`children::ask`] asks for, and this end's nonce of 32 octets, which
+/// The payloads of a request for an additional Child SA (RFC 7296, section 1.3.1): SA, Nonce, TSi, TSr, with
+/// what [`children::ask`] asks for, and this end's nonce of 32 octets, which
 /// [`conclude_response`](crate::conclude_response) is to be given again (section 2.17). They can be sealed.
 ///
-/// The caller gives selectors that a message can carry. An error is for want of memory alone.
+/// The caller gives selectors that a message can carry. The only error is an allocation failure.
 pub fn ask(alloc: Global, asked: &Asked, nonce: &[u8; 32]) -> Result<Items<Payload>, AllocError>
     requires local { IsSendableSelector asked.now.local }
     requires remote { IsSendableSelector asked.now.remote }

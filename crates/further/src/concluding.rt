@@ -1,4 +1,4 @@
-//! What an initiator makes of the answer to its request for a further child.
+//! What an initiator makes of the answer to its request for an additional Child SA.
 ghost use Rattle.std.specs.Prelude.{◌≡◌, ◌≢◌, Some, IfErr, IfOk};
 ghost use Rattle.replay.specs.Window.{IsBlockCount};
 ghost use Rattle.exchange.specs.Chains.{TellsError};
@@ -19,39 +19,41 @@ use wire::Payload;
 pub struct Concluded {
     /// What comes of it.
     pub conclusion: Conclusion,
-    /// The error that it tells ([`first_error`]), also where a child is made. `None` where it tells none, or is not in the grammar.
+    /// The error that it tells ([`first_error`]), also where a Child SA is made. `None` where it tells none,
+    /// or is not in the grammar.
     pub error: Option<u16>,
 }
 
 /// What comes of an answer.
 #[derive(Drop)]
 pub enum Conclusion {
-    /// The responder told INVALID_SYNTAX, by which the IKE association is over at both ends. The SPI that
-    /// was reserved goes back to the table.
+    /// The responder told INVALID_SYNTAX, by which the IKE SA is over at both ends. The SPI that was reserved
+    /// goes back to the table.
     Closes,
-    /// The child is made, and this is the initiator's pair.
+    /// The Child SA is made, and this is the initiator's SA pair.
     Made(Pair),
-    /// No child is made here, and the association stands. The SPI that was reserved goes back to the table.
-    /// Nothing is told to the responder, which has its pair where it took the child for made.
+    /// No Child SA is made here, and the IKE SA stands. The SPI that was reserved goes back to the table.
+    /// Nothing is told to the responder, which has its SA pair where it took the child for made.
     NoChild,
 }
 
 /// What an initiator makes of the answer to what it asked by [`ask`](crate::ask) with its nonce (RFC 7296,
-/// section 1.3.1), by the payloads that the answer opened to, under the association of this serial and
-/// these keys. The first that applies, in this order:
+/// section 1.3.1), by the payloads that the answer opened to, under the IKE SA of this serial and these keys.
+/// The first that applies, in this order:
 ///
 /// 1. The payloads are not in the grammar: [`Conclusion::NoChild`], a rule of this implementation.
-/// 2. A notice INVALID_SYNTAX is there, also beside a complete child: [`Conclusion::Closes`] (section
-///    2.21.3).
+/// 2. A Notify payload INVALID_SYNTAX is there, also beside a complete Child SA: [`Conclusion::Closes`]
+///    (section 2.21.3).
 /// 3. There is not exactly one Nonce, or [`children::accept`] doesn't accept the answer:
 ///    [`Conclusion::NoChild`].
-/// 4. [`Conclusion::Made`], under the keys that come of this end's nonce and of the answer's (section
-///    2.17), with a replay window of so many blocks, a count that [`replay::is_block_count`] allows. The
-///    pair receives under the SPI that was asked with.
+/// 4. [`Conclusion::Made`], under the keys that come of this end's nonce and of the answer's (section 2.17),
+///    with a replay window of so many blocks, a count that [`replay::is_block_count`] allows. The SA pair
+///    receives under the SPI that was asked with.
 ///
-/// By rules of this implementation any other notice brings about nothing, and a critical payload that is not known is passed over, against
-/// section 2.5. The first error notice is told beside the conclusion, whatever that is. An error is for want of memory alone, for the message
-/// or the pair and not for its place in the table.
+/// By rules of this implementation any other Notify payload brings about nothing, and a critical payload that
+/// is not known is passed over, against section 2.5. The first error notification is told beside the
+/// conclusion, whatever that is. The only error is an allocation failure, for the message or the pair and not
+/// for its place in the table.
 pub fn conclude_response(
     alloc: Global,
     plain: &Plain,

@@ -1,4 +1,4 @@
-//! What a responder decides about a request for a further child.
+//! What a responder decides about a request for an additional Child SA.
 ghost use Rattle.std.specs.Prelude.{◌≡◌, IfErr, IfOk, Some};
 ghost use Rattle.std.specs.List.{AllByRecursion};
 ghost use Rattle.wire.specs.Sizes.{FitsFields};
@@ -25,14 +25,14 @@ use wire::laws::{octets_spell_one_message, what_is_read_fits};
 /// What is decided.
 #[derive(Drop)]
 pub enum Decision {
-    /// No child is made, for what the notice says.
+    /// No Child SA is made, for what the notification says.
     Refused(Notice),
-    /// A child is made.
+    /// A Child SA is made.
     Made(Made),
 }
 
 impl Decision {
-    /// Whether it ends the IKE association: so does INVALID_SYNTAX alone (RFC 7296, section 2.21.3).
+    /// Whether it ends the IKE SA: so does INVALID_SYNTAX alone (RFC 7296, section 2.21.3).
     pub fn is_closing(&self) -> bool
         ensures { result ≡ is_closing_decision self.now }
     {
@@ -42,8 +42,8 @@ impl Decision {
         }
     }
 
-    /// What the answer says, for [`answer_payloads`](crate::answer_payloads), and the responder's pair, for
-    /// [`children::install`].
+    /// What the answer says, for [`answer_payloads`](crate::answer_payloads), and the responder's SA pair,
+    /// for [`children::install`].
     pub fn into_parts(self) -> (ChildAnswer, Option<Pair>)
         ensures answer { result.0 ≡ answer_to_further self }
         ensures pair { result.1 ≡ further_pair self }
@@ -56,8 +56,8 @@ impl Decision {
     }
 }
 
-/// What is decided about a request for a further child (RFC 7296, sections 1.3 and 1.3.1), by the payloads
-/// that it opened to, under the association of this serial and these keys; `deleting` tells whether a
+/// What is decided about a request for an additional Child SA (RFC 7296, sections 1.3 and 1.3.1), by the
+/// payloads that it opened to, under the IKE SA of this serial and these keys. `deleting` tells whether a
 /// request of this end to delete it is outstanding.
 ///
 /// Refused, in this order:
@@ -71,9 +71,9 @@ impl Decision {
 /// Otherwise a child is made, under the keys that come of the request's nonce and of this end's, the step's
 /// fresh one (section 2.17). What is decided can be sent.
 ///
-/// Of the table its room alone changes, also after an error, and not even that where 1 or 2 applies; where
-/// a child is made, the table can take its pair, as [`children::install`] wants it. An error is for want of
-/// memory alone.
+/// Of the table its spare capacity alone changes, also after an error, and not even that where 1 or 2
+/// applies; where a child is made, the table can take its SA pair, as [`children::install`] wants it. The
+/// only error is an allocation failure.
 pub fn decide<C>(
     alloc: Global,
     setup: &Setup<'_, C>,
@@ -136,7 +136,7 @@ fn decide_on<C>(
     }
 }
 
-// What answers the child that is asked for.
+// What answers the Child SA that is asked for.
 fn respond_to<C>(
     alloc: Global,
     setup: &Setup<'_, C>,
@@ -178,7 +178,7 @@ fn respond_to<C>(
     }
 }
 
-// What a further child is made on, by the nonces of the exchange's initiator and of its responder.
+// What an additional Child SA is made on, by the nonces of the exchange's initiator and of its responder.
 pub(crate) fn further_setting(
     blocks: u32,
     ike: u32,

@@ -1,4 +1,4 @@
-//! What a responder makes of a request for a further child.
+//! What a responder makes of a request for an additional Child SA.
 ghost use Rattle.std.specs.Prelude.{◌≡◌, false, MatchOption};
 ghost use Rattle.further.specs.Judging.{is_complete, judgement_view, HasFurtherParts, IsFurtherJudgement};
 
@@ -11,7 +11,7 @@ use wire::Payload;
 /// What a request asks for (RFC 7296, section 1.3.1).
 #[derive(Clone, Copy)]
 pub struct FurtherRequest<'a> {
-    /// The child.
+    /// The Child SA.
     pub offer: ChildOffer<'a>,
     /// The initiator's nonce (section 2.10).
     pub nonce: &'a [u8],
@@ -20,24 +20,24 @@ pub struct FurtherRequest<'a> {
 /// What a responder makes of a request.
 #[derive(Clone, Copy)]
 pub enum Judgement<'a> {
-    /// It is answered by this notice alone.
+    /// It is answered by this Notify payload alone.
     Refused(Notice),
-    /// It asks for a further child.
+    /// It asks for an additional Child SA.
     Asked(FurtherRequest<'a>),
 }
 
 /// What a responder makes of the payloads of a request; `deleting` tells whether its own request to delete
-/// the IKE association is outstanding (RFC 7296, section 1.4.1). The first that applies, in this order:
+/// the IKE SA is outstanding (RFC 7296, section 1.4.1). The first that applies, in this order:
 ///
-/// 1. An unknown payload is marked as critical: the notice UNSUPPORTED_CRITICAL_PAYLOAD, for the first
-///    (section 2.5).
-/// 2. A key exchange payload is there, or a proposal for an IKE association, or this end is `deleting`:
+/// 1. An unknown payload is marked as critical: the Notify payload UNSUPPORTED_CRITICAL_PAYLOAD, for the
+///    first (section 2.5).
+/// 2. A key exchange payload is there, or a proposal for an IKE SA, or this end is `deleting`:
 ///    NO_ADDITIONAL_SAS (section 1.3, in these cases a rule of this implementation).
 /// 3. There is not exactly one SA, Nonce, TSi and TSr each: INVALID_SYNTAX (section 3.10.1).
 /// 4. [`Judgement::Asked`].
 ///
-/// Notices are passed over, REKEY_SA (section 1.3.3) among them: no child is replaced by another, a further
-/// one is made, a rule of this implementation. Takes no memory.
+/// Notify payloads are passed over, REKEY_SA (section 1.3.3) among them: no Child SA is replaced by another,
+/// an additional one is made, a rule of this implementation. Takes no memory.
 pub fn judge(payloads: &[Payload], deleting: bool) -> Judgement<'_>
     ensures { IsFurtherJudgement payloads.now deleting (judgement_view result) }
 {

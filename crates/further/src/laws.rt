@@ -46,8 +46,8 @@ use children::laws::{
 use exchange::laws::{notices_fit, what_counts_fits};
 use wire::laws::{octets_spell_one_message, what_is_read_fits};
 
-/// A request is judged in one way. What is decided about it goes by what the table holds, whatever room
-/// there is, and in one way, and so does what is made of an answer. Does nothing.
+/// A request is judged in one way. What is decided about it goes by what the table holds, whatever spare
+/// capacity there is, and in one way, and so does what is made of an answer. Does nothing.
 pub fn further_children_are_determined()
     ensures judged { (payloads : List Payload) (deleting : Bool) (one other : FurtherJudgement)
         → IsFurtherJudgement payloads deleting one → IsFurtherJudgement payloads deleting other
@@ -67,8 +67,8 @@ pub fn further_children_are_determined()
     octets_spell_one_message();
 }
 
-/// The nonces that are sent are those of which the keys come (RFC 7296, section 2.17): the pair that a
-/// responder makes is its pair of the child of the request and of the answer that it sends; the pair of an
+/// The nonces that are sent are those of which the keys come (RFC 7296, section 2.17). The SA pair that a
+/// responder makes is its pair of the Child SA of the request and of the answer that it sends. The pair of an
 /// accepted answer is the exchange's initiator's, where the request was asked by its nonce. Does nothing.
 pub fn further_pairs_are_children()
     ensures made { (setup : Setup) (ike : ℕ) (keys : KeyRecord) (table : Database) (deleting : Bool)
@@ -88,9 +88,9 @@ pub fn further_pairs_are_children()
     octets_spell_one_message();
 }
 
-/// The pairs that the two ends of an exchange have of its child mirror each other, under equal key records:
-/// what one sends the other receives, under one SPI and one key, and what is local to one is remote to the
-/// other. So it is of the child of a request that offered one proposal, and of its reply; and of every
+/// The SA pairs that the two ends of an exchange have of its Child SA mirror each other, under equal key
+/// records. What one sends the other receives, under one SPI and one key, and what is local to one is remote
+/// to the other. So it is of the child of a request that offered one proposal, and of its reply; and of every
 /// request by [`ask`](crate::ask) that was decided about as it was sent, where its answer came as it was
 /// sent. Does nothing.
 pub fn further_children_mirror()
@@ -112,10 +112,10 @@ pub fn further_children_mirror()
     octets_spell_one_message();
 }
 
-/// What is made keeps to its offer and to the policy (RFC 7296, sections 2.7 and 2.9), as a first child
-/// does: the selectors lie inside those offered, and inside one entry that protects; numbers are extended
-/// only where that is allowed; the answer's proposal has number and protocol of one that was offered, and
-/// takes its transforms from it. What is accepted keeps to what was asked. Does nothing.
+/// What is made keeps to its offer and to the policy (RFC 7296, sections 2.7 and 2.9), as a first Child SA
+/// does. The selectors lie inside those offered, and inside one entry that protects. ESN is used only where
+/// that is allowed. The answer's proposal has number and protocol of one that was offered, and takes its
+/// transforms from it. What is accepted keeps to what was asked. Does nothing.
 pub fn further_children_keep_to_their_offers()
     ensures offer { (setup : Setup) (ike : ℕ) (keys : KeyRecord) (table : Database) (deleting : Bool)
         (plain : Plain) (made : Made)
@@ -147,7 +147,7 @@ pub fn further_children_keep_to_their_offers()
     octets_spell_one_message();
 }
 
-/// A pair has at most 16 selectors on either side, as the payloads that were read. Does nothing.
+/// An SA pair has at most 16 selectors on either side, as the payloads that were read. Does nothing.
 pub fn further_pairs_have_few_selectors()
     ensures made { (setup : Setup) (ike : ℕ) (keys : KeyRecord) (table : Database) (deleting : Bool)
         (plain : Plain) (made : Made)
@@ -162,7 +162,7 @@ pub fn further_pairs_have_few_selectors()
     what_is_read_fits();
 }
 
-/// What an initiator asked, and a responder made a child of, is accepted by the initiator, where request
+/// What an initiator asked, and a responder made a Child SA of, is accepted by the initiator, where request
 /// and answer came as they were sent. Does nothing.
 pub fn further_answers_are_accepted()
     ensures { (asked : Asked) (own_nonce : Octets) (keys : KeyRecord) (setup : Setup)
@@ -179,8 +179,8 @@ pub fn further_answers_are_accepted()
     octets_spell_one_message();
 }
 
-/// What a refusal brings about at the exchange's initiator, where it came as it was sent: both ends take
-/// the IKE association for over, or both go on without the child. Does nothing.
+/// What a refusal brings about at the exchange's initiator, where it came as it was sent: both ends take the
+/// IKE SA for over, or both go on without the Child SA. Does nothing.
 pub fn further_refusals_are_told()
     ensures closing { (notice : Notice) (nonce : Octets) (blocks ike : ℕ) (keys : KeyRecord) (asked : Asked)
         (own_nonce : Octets)
@@ -198,8 +198,8 @@ pub fn further_refusals_are_told()
     octets_spell_one_message();
 }
 
-/// All that is sent of a further child has what its fields allow, and is short enough to be sealed. Does
-/// nothing.
+/// All that is sent of an additional Child SA has what its fields allow, and is short enough to be sealed.
+/// Does nothing.
 pub fn what_is_sent_fits()
     ensures request { (asked : Asked) (nonce : Octets) → IsSendableSelector asked.local
         → IsSendableSelector asked.remote

@@ -1,17 +1,17 @@
-//! A further child of an IKE association that is established (RFC 7296, sections 1.3 and 1.3.1): what the
+//! An additional Child SA of an IKE SA that is established (RFC 7296, sections 1.3 and 1.3.1): what the
 //! messages of CREATE_CHILD_SA say of it, and what either end makes of them. Initiator and responder are
-//! those of this exchange: either end of the association may ask, whatever its role in the first one.
-//! Request numbers, repeats and retransmission stand in the crate `requests`.
+//! those of this exchange: either end of the IKE SA may ask, whatever its role in the first one. Message IDs
+//! and retransmission stand in the crate `requests`.
 //!
 //! An initiator sends the payloads of [`ask`], with an SPI that its table reserved and a fresh nonce. A
-//! responder tells by [`decide`] what becomes of the request, which changes the table's room alone, sends
-//! the payloads of [`answer_payloads`], and adds its pair by [`children::install`] once nothing can fail
-//! any more. The initiator takes the answer by [`conclude_response`]. The keys come from the association's
-//! and the nonces of this exchange (section 2.17). No key exchange takes place in it, and no IKE
-//! association is made in place of another: a request for either is refused. A notice in a request is
-//! passed over, REKEY_SA among them, so no child is replaced. What a request asks for, or why it is refused
-//! before policy and table are asked, [`judge`] tells alone. That the two ends' pairs mirror each other,
-//! and what else follows from the definitions alone, stands in [`laws`].
+//! responder tells by [`decide`] what becomes of the request, which changes the table's spare capacity alone,
+//! sends the payloads of [`answer_payloads`], and adds its SA pair by [`children::install`] once nothing can
+//! fail any more. The initiator takes the answer by [`conclude_response`]. The keys come from the IKE SA's
+//! and the nonces of this exchange (section 2.17). No key exchange takes place in it, and no IKE SA is made
+//! in place of another: a request for either is refused. A Notify payload in a request is passed over,
+//! REKEY_SA among them, so no child is replaced. What a request asks for, or why it is refused before policy
+//! and table are asked, [`judge`] tells alone. That the two ends' pairs mirror each other, and what else
+//! follows from the definitions alone, stands in [`laws`].
 //!
 //! ```text
 //! let payloads = ask(alloc, &asked, &fresh.nonce)?;

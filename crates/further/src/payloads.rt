@@ -1,4 +1,4 @@
-//! The payloads that make a further child.
+//! The payloads that make an additional Child SA.
 ghost use Rattle.std.specs.Prelude.{◌≡◌, IfOk};
 ghost use Rattle.base.specs.Octets.{AreOctets};
 ghost use Rattle.wire.specs.Sizes.{FitsFields};
@@ -13,8 +13,8 @@ use exchange::ChildPayloads;
 use std::alloc::{AllocError, Global};
 use wire::Payload;
 
-/// SA, Nonce, TSi and TSr (RFC 7296, section 1.3.1), by what a request or its answer says of the child, and
-/// its sender's nonce.
+/// SA, Nonce, TSi and TSr (RFC 7296, section 1.3.1), by what a request or its answer says of the Child SA,
+/// and its sender's nonce.
 pub fn further_payloads(
     alloc: Global,
     child: ChildPayloads,

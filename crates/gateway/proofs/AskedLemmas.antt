@@ -1,4 +1,4 @@
--- By what an end that came to keys asks for its first child, and that a message of a step is stored.
+-- By what an end that came to keys asks for its first Child SA, and that a message of a step is stored.
 use Rattle.std.proofs.Common.{◌≡◌, ℕ, suc, Bool, true, false, List, [], ◌∷◌, Option, Some, None, Contains, Result, Ok, Err, slice_get, map, cond, inl, inr, sym, ap, subst, ◌∙◌}
 use Rattle.std.specs.List.{find, position}
 use Rattle.std.proofs.lemmas.List.Elements.{Contains-append_left, Contains-append_right}

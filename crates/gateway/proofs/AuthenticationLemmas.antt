@@ -77,7 +77,7 @@ module _ {C : Type 0} (facts : AuthenticationFacts) (meaning_of : C → Meaning)
     established = is.established;
   }
 
-  -- the keys under which the peer proves itself are those that the association is established under
+  -- the keys under which the peer proves itself are those that the IKE SA is established under
   keys_are : (p : Passage C) (serial : ℕ) (keys : KeyRecord) (s : IkeStep (meaning_of p.before.caller) (for_ike p.given) p.before p.said p.after) → IsPassage meaning_of p → IsEstablishedWith p.after serial keys
       → (was : Association) → association_of serial p.before.machine.held.associations ≡ Some was → HasKeys was.phase → keys_in was.phase ≡ Some keys
   keys_are p serial keys s passage is was stood has =

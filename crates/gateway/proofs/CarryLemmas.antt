@@ -1,5 +1,5 @@
--- Over a list of events a world accounts for its children and its pairs, and what goes up at one end the
--- other sealed.
+-- Over a list of events a world accounts for its Child SAs and its pairs, and what is delivered at one end
+-- the other sealed.
 use Rattle.std.proofs.Common.{◌≡◌, ◌≤◌, ◌++◌, ℕ, take, zero, suc, Bool, true, false, List, [], ◌∷◌, Some, Contains, inl, inr, refl, sym, ap, subst, ◌∙◌, arith}
 use Rattle.std.specs.Prelude.{slice_get}
 use Rattle.std.proofs.lemmas.List.Elements.{Contains-append_left}
@@ -191,7 +191,7 @@ held_mirror {C} keys now last later known mirror asked answered one other first 
     pairs_mirror asked answered one other (mirror asked answered (more_children now.stored last.stored asked later first) (more_children now.stored last.stored answered later second) under of_one)
     (known.same asked one first p) (known.same answered other second q)
 
--- ---- what goes up
+-- ---- what is delivered
 
 -- what is known of packets
 pub record CarryLaws : Type 0 where
@@ -217,7 +217,7 @@ module _ {C : Type 0} (laws : PairLaws) (carry : CarryLaws) (meaning_of : C → 
   here : gateway_at e h.after ≡ at.takes.gateway
   here = ap (λ (w : WorldState C). gateway_at e w) at.takes.content ∙ gateway_here e at.takes.gateway _ h.before
 
-  -- a packet that goes up came to a pair, which judged it
+  -- a packet that is delivered came to a pair, which judged it
   record GoesUp (serial number : ℕ) (packet : Octets) : Type 0 where
     octets : Octets
     given : h.event.input ≡ input.Esp octets

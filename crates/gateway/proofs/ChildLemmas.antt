@@ -1,4 +1,4 @@
--- An event keeps what a world knows of its children under a key record.
+-- An event keeps what a world knows of its Child SAs under a key record.
 use Rattle.std.proofs.Common.{◌≡◌, ◌⊎◌, ℕ, Bool, true, false, List, Option, Some, None, Contains, inl, inr, refl, sym, ap, subst, ◌∙◌, arith}
 use Rattle.std.specs.Prelude.{option_and_then}
 use Rattle.std.specs.Option.{option_to_list}
@@ -80,7 +80,7 @@ use Rattle.gateway.proofs.PartyLemmas.{none_some, single, some_is}
 use Rattle.gateway.proofs.SoundWorldLemmas.{each_end, still_sent}
 use Rattle.gateway.proofs.WorldLemmas.{stored_at}
 
--- what is known of the children that a step makes and asks for
+-- what is known of the Child SAs that a step makes and asks for
 pub record ChildLaws : Type 0 where
   pub made : (meaning : Meaning) (entries : List Entry) (from octets : Octets) (fresh : Fresh) (old : Machine) (table : Database) (stepped : Stepped) (made : MadeChild) (new : Machine) (new_table : Database)
       → IsSoundTable table → IsSoundMachine old table → ike.Steps meaning entries (ike.Message from octets fresh) old table stepped new new_table → stepped.trace.child ≡ Some made
@@ -183,7 +183,7 @@ role_keys Responder keys whole = whole.responder
 pub keys_at : (held : Held) (serial : ℕ) (a : Association) (keys : KeyRecord) (role : Role) → HoldWholeKeys held → association_of serial held.associations ≡ Some a → keys_in a.phase ≡ Some keys → AreKeys (keys_of role keys)
 keys_at held serial a keys role whole there keyed = role_keys role keys (whole_at held serial a whole there keys keyed)
 
--- ---- the association that waits for the answer to a request for a further child is established
+-- ---- the IKE SA that waits for the answer to a request for an additional Child SA is established
 
 further_established : (p : Phase) (number : ℕ) (further : FurtherChild) → MayBeOutstanding p number (purpose.CreateChild further) → (keys : KeyRecord) × (p ≡ phase.Established keys)
 further_established (phase.InitSent sent) number further may = absurd (let no : purpose.CreateChild further ≡ purpose.Begin = may.1 in cc)
@@ -219,7 +219,7 @@ pub gateway_there : {C : Type 0} (end : End) (gateway : State C) (stored : Store
 gateway_there {C} A gateway stored old = refl
 gateway_there {C} B gateway stored old = refl
 
--- what was opened, by the keys that the association has
+-- what was opened, by the keys that the IKE SA has
 pub opened_with : (plain_of : Opening) (role : Role) (o : Option KeyRecord) (keys : KeyRecord) (octets : Octets) (payloads : List Payload) (plain : Plain) → o ≡ Some keys
     → opened_under plain_of role o octets payloads ≡ Some plain → plain_of_message plain_of (keys_of (other_role role) keys) octets payloads ≡ Some plain
 opened_with plain_of role o keys octets payloads plain is opened = sym (ap (λ (k : Option KeyRecord). opened_under plain_of role k octets payloads) is) ∙ opened
@@ -276,7 +276,7 @@ module _ {C : Type 0} (turns : TurnLaws) (kin : ChildLaws) (meaning_of : C → M
       stepped_with : (view : ike.InputView) → w.view ≡ view → ike.Steps meaning was.entries view was.machine was.table w.stepped t.gateway.machine t.gateway.table
       stepped_with view is = subst (λ (v : ike.InputView). ike.Steps meaning was.entries v was.machine was.table w.stepped t.gateway.machine t.gateway.table) is w.steps
 
-      -- keys that an association had it has still
+      -- keys that an IKE SA had it has still
       keys_stay : (serial : ℕ) (a b : Association) → association_of serial was.machine.held.associations ≡ Some a → association_of serial held.associations ≡ Some b → keys_in a.phase ≡ Some keys → keys_in b.phase ≡ Some keys
       keys_stay serial a b stood stands keyed =
           turns.keys meaning was.entries w.view was.machine was.table w.stepped t.gateway.machine t.gateway.table serial keys b t.sound.table t.sound.machine w.steps
@@ -397,7 +397,7 @@ module _ {C : Type 0} (turns : TurnLaws) (kin : ChildLaws) (meaning_of : C → M
           ];
         }
 
-      -- ---- a child that is made
+      -- ---- a Child SA that is made
 
       record Arrives (response : Bool) (serial number : ℕ) : Type 0 where
         association : Association

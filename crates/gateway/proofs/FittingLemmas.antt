@@ -174,7 +174,7 @@ input_few law meaning entries (input.Inward packet) old table s trace new new_ta
 pub step_few : {C : Type 0} (law : AgainLaw) (meaning : Meaning) (given : Input) (s : OutputView) (trace : Trace) (old new : State C) → Traces meaning given old s trace new → FewAgain s (again_by given old.machine)
 step_few {C} law meaning given s trace old new is = input_few law meaning old.entries given old.machine old.table s trace new.machine new.table is.does
 
--- what the machine of IKE says of the child that a step made
+-- what the machine of IKE says of the Child SA that a step made
 pub record MadeLaws : Type 0 where
   pub few : (meaning : Meaning) (entries : List Entry) (given : ike.InputView) (old : Machine) (table : Database) (stepped : Stepped) (new : Machine) (new_table : Database) (child : MadeChild) (pair : Pair)
       → IsSoundTable table → IsSoundMachine old table → ike.Steps meaning entries given old table stepped new new_table → stepped.trace.child ≡ Some child → pair_at new_table.pairs child.serial ≡ Some pair → HasFewSelectors pair

@@ -26,7 +26,7 @@ was_marked old serial pair is = record {
   live = λ live. absurd (let marked : Deleting ≡ Live = sym (ap (λ (p : Pair). p.state) is.is) ∙ live in cc);
 }
 
--- a step that made no child
+-- a step that made no Child SA
 pub none_comes : (held : Held) (table : Database) (stepped : Stepped) (new : Held) (new_table : Database) → IsTraced held table stepped new new_table → stepped.trace.child ≡ None
     → NoneComes table.pairs new_table.pairs
 none_comes held table stepped new new_table is none = λ serial pair there.

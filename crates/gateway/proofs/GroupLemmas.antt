@@ -1,4 +1,4 @@
--- Inputs that are taken in groups, with check values that were computed ahead.
+-- Inputs that are taken in groups, with ICVs that were computed ahead.
 use Rattle.std.proofs.Common.{◌≡◌, ◌≢◌, ◌+◌, ◌<◌, ◌≤◌, ◌++◌, ℕ, List, length, map, take, drop, get_or, refl, sym, ap, ◌∙◌, subst, arith, inl, inr, append_assoc, Option, Some, None, length-drop}
 use Rattle.std.specs.Prelude.{IfSome, replicate}
 use Rattle.std.proofs.lemmas.Bool.{cases_lt}
@@ -18,7 +18,7 @@ use Rattle.gateway.specs.States.{State}
 use Rattle.gateway.specs.declared.output.Output.{Output}
 use Rattle.gateway.proofs.RunLemmas.{next_in_image, runs_joined, within_image}
 
--- ---- check values
+-- ---- ICVs
 
 if_found : (P : Precomputed → Type 0) (o : Option Precomputed) → ((found : Precomputed) → o ≡ Some found → P found) → IfSome o P
 if_found P None each = tt

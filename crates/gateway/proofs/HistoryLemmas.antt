@@ -1,4 +1,4 @@
--- A run as the list of its steps, and what becomes of an association from one of them to another.
+-- A run as the list of its steps, and what becomes of an IKE SA from one of them to another.
 use Rattle.std.proofs.Common.{◌≡◌, inl, inr, ℕ, zero, suc, ◌<◌, ◌≤◌, ◌∷◌, [], true, List, length, Option, Some, None, ap, refl, subst, sym, ◌∙◌, arith}
 use Rattle.std.specs.List.{slice_get}
 use Rattle.std.proofs.lemmas.Bool.Decides.{eqb_tells}
@@ -176,7 +176,7 @@ pub record Facts : Type 0 where
   pub reflexive : (a : PeerRequests) → FollowsIncoming a a
   pub transitive : (a b c : PeerRequests) → FollowsIncoming a b → FollowsIncoming b c → FollowsIncoming a c
 
--- what becomes of an association from one step to another
+-- what becomes of an IKE SA from one step to another
 pub record Through (a b : Association) : Type 0 where
   pub follows : FollowsIncoming a.incoming b.incoming
   pub concluded : is_concluded a.phase ≡ true → StaysConcluded a b
@@ -258,7 +258,7 @@ module _ {C : Type 0} (facts : Facts) (meaning_of : C → Meaning) (old new : St
         omega (arith, before, here)
   ]
 
-  -- an association that is held before and after is held between
+  -- an IKE SA that is held before and after is held between
   pub record Holds (k serial : ℕ) : Type 0 where
     pub association : Association
     pub there : association_in (state_at old ps k) serial ≡ Some association

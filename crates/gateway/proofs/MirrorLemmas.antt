@@ -1,4 +1,4 @@
--- The children of one request that both ends made mirror each other.
+-- The Child SAs of one request that both ends made mirror each other.
 use Rattle.std.proofs.Common.{◌≡◌, ℕ, Bool, true, false, List, [], ◌∷◌, Some, refl, sym, ap, subst, ◌∙◌, arith}
 use Rattle.base.specs.Octets.{Octets}
 use Rattle.wire.specs.declared.payload.Payload.{Payload}

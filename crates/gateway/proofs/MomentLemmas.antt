@@ -1,4 +1,4 @@
--- What is due comes with the first moment that reaches it, over a run.
+-- What is due comes with the first tick that reaches it, over a run.
 use Rattle.std.proofs.Common.{◌≡◌, inl, inr, ℕ, Bool, true, false, List, Option, Some, None, max, ap, refl, subst, sym, ◌∙◌}
 use Rattle.policy.specs.declared.entry.Entry.{Entry}
 use Rattle.sadb.specs.Database.{Database}

@@ -1,4 +1,4 @@
--- What a step of a gateway does to each of its associations, as moves.
+-- What a step of a gateway does to each of its IKE SAs, as moves.
 use Rattle.std.proofs.Common.{◌≡◌, ◌⊎◌, ◌≤◌, ◌∷◌, ℕ, Bool, true, false, List, [], Option, Some, None, Contains, length, ap, subst, refl, sym, ◌∙◌, arith, inl, inr}
 use Rattle.std.specs.Prelude.{option_and_then}
 use Rattle.std.specs.List.{AllByRecursion}
@@ -40,7 +40,7 @@ use Rattle.gateway.proofs.ToldLemmas.{none_told, ticked_by, AgainLaw, TraceLaw}
 
 -- ---- what moves send
 
--- a request that is issued, or a reply by which one takes effect
+-- a request that is issued, or a reply by which one is processed
 abbrev SentBy : List Move → Entry → Type 0
 SentBy moves entry =
     ((entry.response ≡ false) × Contains moves (Issue entry.number entry.octets)) ⊎ ((entry.response ≡ true) × Contains moves (TakeEffect entry.number entry.octets))
@@ -113,12 +113,12 @@ pub record GoesOut (s : OutputView) (trace : Trace) (serial : ℕ) (entry : Entr
 abbrev pub entry_of : marks.Mark → Octets → Entry
 entry_of m octets = record { response = m.response; number = m.number; octets = octets }
 
--- the peer's message comes to the association with this serial
+-- the peer's message comes to the IKE SA with this serial
 abbrev pub ComesHere : Meaning → Option ike.InputView → Held → ℕ → Bool → ℕ → Type 0
 ComesHere meaning None old serial response number = ⊥
 ComesHere meaning (Some view) old serial response number = ComesFor meaning view old serial response number
 
--- the moves of one association by a step of a gateway
+-- the moves of one IKE SA by a step of a gateway
 pub record EndMoves (meaning : Meaning) (given : Option ike.InputView) (old : Held) (s : OutputView) (trace : Trace) (new : Held) (serial : ℕ) : Type 0 where
   pub moves : List Move
   pub few : length moves ≤ 2

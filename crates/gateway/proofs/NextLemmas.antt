@@ -1,4 +1,4 @@
--- Before the next moment at which something is due nothing comes of a gateway, and at it something does.
+-- Before the next time at which something is due nothing comes of a gateway, and at it something does.
 use Rattle.std.proofs.Common.{◌≡◌, ◌<◌, ◌≤◌, ◌^◌, [], ℕ, Bool, true, false, List, Option, length, max, ap, ◌∙◌, arith, inl, inr, subst, sym}
 use Rattle.policy.specs.declared.entry.Entry.{Entry}
 use Rattle.sadb.specs.Database.{Database}
@@ -20,7 +20,7 @@ use Rattle.gateway.specs.Outputs.{view_of_ike, wants_memory, OutputView, Ticked}
 use Rattle.gateway.specs.States.{State}
 use Rattle.gateway.specs.Steps.{Steps, StepsIke}
 
--- what is known of a machine before the next moment
+-- what is known of a machine before the next time
 abbrev pub NothingBefore : Type 0
 NothingBefore = (next : Option ℕ) (moment : ℕ) (old : Machine) (table : Database) (stepped : Stepped) (new : Machine) (new_table : Database) → IsTimely old → NothingIsDueBefore next old.held.associations → moment < 2 ^ 64 → IsBefore moment next
     → TakesMoment moment old table stepped new new_table → (stepped ≡ plain_step (made.Ticked (record { requests = []; closed = [] }))) × (new ≡ record old { moment = max old.moment moment }) × (new_table ≡ table)
@@ -49,12 +49,12 @@ module _ {C : Type 0} (law : NothingBefore) (unrefused : NoneRefused) where
       → Steps meaning (input.Tick moment) old said new → StaysBut (max old.machine.moment moment) old said new
   stays meaning next moment old new said timely quiet fits before is = stays_by meaning next moment old new said is.trace timely quiet fits before is.traces.kept is.traces.does
 
--- what is known of a machine at a moment at which something is due
+-- what is known of a machine at a time at which something is due
 abbrev pub SomethingThen : Type 0
 SomethingThen = (moment : ℕ) (old : Machine) (table : Database) (stepped : Stepped) (new : Machine) (new_table : Database) → SomethingIsDue (max old.moment moment) old.held.associations → TakesMoment moment old table stepped new new_table
     → (stepped ≡ plain_step (made.Ticked (record { requests = []; closed = [] }))) × (length new.held.associations ≡ length old.held.associations) → ⊥
 
--- and of a moment that is refused
+-- and of a tick that is refused
 abbrev pub Unrefused : Type 0
 Unrefused = (meaning : Meaning) (entries : List Entry) (moment : ℕ) (machine : Machine) (table : Database) (reason : IkeFault) → ike.Refuses meaning entries (ike.Tick moment) machine table reason → faults.is_want_of_memory reason ≡ true
 

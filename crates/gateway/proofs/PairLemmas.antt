@@ -60,7 +60,7 @@ pub record PairLaws : Type 0 where
 
 -- ---- what a step leaves of a table's pairs
 
--- the pair stood before, with the same associations and selectors
+-- the SA pair stood before, with the same SAs and selectors
 record StoodSo (old : Database) (serial : ℕ) (pair : Pair) : Type 0 where
   was : Pair
   there : pair_at old.pairs serial ≡ Some was
@@ -267,7 +267,7 @@ marked_now {C} end at s sent gateway by number octets there =
           absurd (ike_never_esp gateway.machine _ by number (ap (λ (d : Datagram). d.mark) from.is))
     ]
 
--- ---- a child that is stored
+-- ---- a Child SA that is stored
 
 record IsShapedSo (end : End) (made : MadeChild) (pair : Option Pair) (child : Child) : Type 0 where
   end_is : child.end ≡ end
@@ -332,7 +332,7 @@ module _ {C : Type 0} (laws : PairLaws) (meaning_of : C → Meaning) (h : Happen
   leaves : LeavesPairs was.table t.trace.child t.gateway.table
   leaves = step_pairs laws meaning was.entries h.event.input was.machine was.table h.said t.trace t.gateway.machine t.gateway.table t.sound.table t.sound.machine t.traces.does
 
-  -- what was stored, and the child of this step
+  -- what was stored, and the Child SA of this step
   abbrev IsNew : Child → Type 0
   IsNew child = child_by e t.trace.child t.gateway ≡ Some child
 
@@ -361,14 +361,14 @@ module _ {C : Type 0} (laws : PairLaws) (meaning_of : C → Meaning) (h : Happen
       shaped = shaped_so e made (keys_of_serial made.ike t.gateway.machine.held.associations) (pair_at t.gateway.table.pairs made.serial) child is;
     }
 
-  -- a child that was stored of this end has a serial that was given
+  -- a Child SA that was stored of this end has a serial that was given
   given_before : (child : Child) → Contains h.before.stored.children child → child.end ≡ e → child.serial < was.table.next
   given_before child stood end = elim (known.given child stood) [
     | inl less ↦ subst (λ (x : End). child.serial < (gateway_at x h.before).table.next) end less
     | inr holds ↦ (t.sound.table.serial_given child.serial holds.pair (subst (λ (x : End). pair_at (gateway_at x h.before).table.pairs child.serial ≡ Some holds.pair) end holds.held)).1
   ]
 
-  -- the child of this step has the next one
+  -- the Child SA of this step has the next one
   new_serial : (child : Child) → IsNewSo child → child.serial ≡ was.table.next
   new_serial child is = is.shaped.serial_is ∙ leaves.named is.made is.named
 
@@ -378,7 +378,7 @@ module _ {C : Type 0} (laws : PairLaws) (meaning_of : C → Meaning) (h : Happen
       let next = new_serial other is in
       absurd (omega (arith, less, next, same)))
 
-  -- ---- of each pair a child is stored
+  -- ---- of each pair a Child SA is stored
 
   more_stored : (end : End) (serial : ℕ) → HasStored end serial h.before.stored → HasStored end serial h.after.stored
   more_stored end serial is = record { child = is.child; there = old_child is.child is.there; end_is = is.end_is; serial_is = is.serial_is }
@@ -473,7 +473,7 @@ module _ {C : Type 0} (laws : PairLaws) (meaning_of : C → Meaning) (h : Happen
   given_after : (child : Child) → Contains h.after.stored.children child → IsGiven child
   given_after child stands = elim (cases child stands) [ inl old ↦ given_old child old | inr new ↦ given_new child (new_so child new) ]
 
-  -- ---- a serial names one child
+  -- ---- a serial names one Child SA
 
   alone_after : (one other : Child) → Contains h.after.stored.children one → Contains h.after.stored.children other → one.end ≡ other.end → one.serial ≡ other.serial → one ≡ other
   alone_after one other first second ends serials = elim (cases one first) [
@@ -487,7 +487,7 @@ module _ {C : Type 0} (laws : PairLaws) (meaning_of : C → Meaning) (h : Happen
     ]
   ]
 
-  -- ---- each packet was sealed by a pair of a child
+  -- ---- each packet was sealed by a pair of a Child SA
 
   entries_same : t.gateway.entries ≡ was.entries
   entries_same = ap (λ (s : State C). s.entries) t.traces.kept

@@ -192,7 +192,7 @@ pub ledger_there : (held : Held) (serial : ℕ) (a : Association) (keys : KeyRec
 ledger_there held serial a keys there keyed =
     ap (λ (o : Option Association). option_and_then ledger o) there ∙ ap (λ (k : Option KeyRecord). option_map (ledger_of a) k) keyed
 
--- an association that has a ledger, and its keys
+-- an IKE SA that has a ledger, and its keys
 pub record HasLedger (held : Held) (serial : ℕ) (l : Ledger) : Type 0 where
   pub association : Association
   pub there : association_of serial held.associations ≡ Some association

@@ -1,4 +1,4 @@
--- A datagram of IKE that is dropped, or took effect before, changes nothing.
+-- A datagram of IKE that is dropped, or was processed before, changes nothing.
 use Rattle.std.proofs.Common.{◌≡◌, inl, inr, List, subst, ◌∙◌}
 use Rattle.base.specs.Octets.{Octets}
 use Rattle.policy.specs.declared.entry.Entry.{Entry}

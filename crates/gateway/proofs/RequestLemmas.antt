@@ -1,4 +1,4 @@
--- Which requests take effect over a run, and how what comes again is answered.
+-- Which requests are processed over a run, and how what comes again is answered.
 use Rattle.std.proofs.Common.{◌≡◌, ◌⊎◌, ◌↔◌, inl, inr, ℕ, zero, suc, ◌+◌, ◌<◌, ◌≤◌, Bool, true, false, List, length, Option, Some, None, ap, refl, subst, sym, ◌∙◌, arith}
 use Rattle.std.specs.FinMap as map
 use Rattle.std.specs.FinSet as set
@@ -75,7 +75,7 @@ pub record RequestFacts : Type 0 where
       → IsSoundMachine old table → ike.Steps meaning entries view old table stepped new new_table → association_of serial old.held.associations ≡ Some a → association_of serial new.held.associations ≡ None → IsGivenUp view old a
   pub still : (meaning : Meaning) (entries : List Entry) (view : ike.InputView) (old : Machine) (table : Database) (stepped : Stepped) (new : Machine) (new_table : Database)
       → ike.Steps meaning entries view old table stepped new new_table → quiet.IsQuiet stepped.output → (new ≡ old) × (new_table ≡ table)
-  -- what is kept is not left behind, and only once IKE_AUTH is done
+  -- what is kept is not below the window, and only once IKE_AUTH is done
   pub soundly : (machine : Machine) (table : Database) (serial : ℕ) (a : Association) → IsSoundMachine machine table → association_of serial machine.held.associations ≡ Some a → IsSoundlyHeld a
 
 yes_no : (b : Bool) → b ≡ true → b ≡ false → ⊥
@@ -265,7 +265,7 @@ module _ {C : Type 0} (facts : RequestFacts) (meaning_of : C → Meaning) (p : P
       → OnlySays (Repeat opened.reply) p
   repeats_first serial a opened memory stands half given = first_by serial a opened way memory stands half given
 
-  -- the request and the reply that made an association half open
+  -- the request and the reply that made an IKE SA half open
   pub record Admitted (opened : HalfOpen) : Type 0 where
     pub request : IsDatagram (for_ike p.given) opened.request
     pub said : p.said ≡ Reply opened.reply None
@@ -280,7 +280,7 @@ module _ {C : Type 0} (facts : RequestFacts) (meaning_of : C → Meaning) (p : P
   pub admits : (serial : ℕ) (b : Association) (opened : HalfOpen) → association_in p.before serial ≡ None → association_in p.after serial ≡ Some b → b.phase ≡ phase.HalfOpen opened → Admitted opened
   admits serial b opened none there half = admits_by serial b opened way none there half
 
-  -- what took effect was delivered
+  -- what was processed was delivered
   delivered_by : (serial : ℕ) (a b : Association) (number : ℕ) → Ways → IsHeldThrough serial p.before.machine.held p.after.machine.held a b → ComesIntoEffect number a b → wants_memory p.said ≡ false
   delivered_by serial a b number (answered w) held comes = ap wants_memory w.output ∙ no_want w.stepped.output
   delivered_by serial a b number (refused w) held comes = absurd (unmoved serial a b number w.same held comes)
@@ -470,7 +470,7 @@ module _ {C : Type 0} (facts : RequestFacts) (changes_nothing : RefusalLaw C) (m
     ]
   ]
 
-  -- what is in effect was so before, or took effect since
+  -- what is in effect was so before, or was processed since
   took_at : (j serial number : ℕ) (c b : Association) → j < length ps → association_in (state_at old ps j) serial ≡ Some c → association_in (state_at old ps (suc j)) serial ≡ Some b → ComesIntoEffect number c b
       → (i : ℕ) → i ≤ j → TookEffect ps serial number i (suc j)
   took_at j serial number c b within before after comes i less =

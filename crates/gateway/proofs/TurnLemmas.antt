@@ -148,7 +148,7 @@ again_is end machine _ keys entry there = absurd (none_there (as_stored end keys
 abbrev pub party_with : {C : Type 0} → End → State C → Stored → Party
 party_with {C} end gateway stored = record { ledgers = ledger_at gateway.machine.held; made = made_at end stored.keyed; sent = sent_at end stored.sent }
 
--- a datagram of these octets comes to an association under these keys, and opens there as its peer's message
+-- a datagram of these octets comes to an IKE SA under these keys, and opens there as its peer's message
 pub record ComesTo {C : Type 0} (meaning : Meaning) (given : Input) (old : State C) (keys : KeyRecord) (response : Bool) (number : ℕ) (octets : Octets) : Type 0 where
   pub serial : ℕ
   pub association : Association
@@ -229,7 +229,7 @@ module _ {C : Type 0} (laws : TurnLaws) (meaning : Meaning) (given : Input) (end
   keys_come_so serial is keys there makes =
       ap (λ (o : Option ℕ). coming_by o new.machine) ((at serial).come keys makes) ∙ ap (λ (k : Option KeyRecord). coming_with serial k) (ledger_keys new.machine.held serial is there)
 
-  -- a message that is stored now is of an association that is held
+  -- a message that is stored now is of an IKE SA that is held
   held_under : (keys : KeyRecord) (serial : ℕ) → HoldsKeys new.machine.held serial → keys_of_serial serial new.machine.held.associations ≡ Some keys → (l : Ledger) × Holds after keys serial l
   held_under keys serial holds keyed = (
     ledger_of holds.association holds.keys,

@@ -86,7 +86,7 @@ use Rattle.ike.specs.declared.output.Mark as marks
 use Rattle.ike.specs.declared.output.Stepped.{Stepped}
 use Rattle.gateway.proofs.PartyLemmas.{none_some, some_is}
 
--- ---- the association at a place is that of its serial
+-- ---- the IKE SA at a place is that of its serial
 
 module _ (serial : ℕ) where
   found_there : (xs : List Association) (place : ℕ) (a : Association) → slice_get xs place ≡ Some a → has_serial serial a ≡ true
@@ -174,7 +174,7 @@ IsFreshOf (ike.Order what given) fresh = given ≡ fresh
 IsFreshOf (ike.Secret secret) fresh = ⊥
 IsFreshOf (ike.Tick moment) fresh = ⊥
 
--- a message goes out of a step: sealed under the keys of its association, which are there before or after,
+-- a message goes out of a step: sealed under the keys of its IKE SA, which are there before or after,
 -- with these fresh octets
 pub record SealsNow (body_of : Keys → Octets → Octets → Octets → Octets) (old new : Held) (window : ℕ) (fresh : Fresh) (m : marks.Mark) (octets : Octets) : Type 0 where
   pub keys : KeyRecord
@@ -190,7 +190,7 @@ pub record SealsNow (body_of : Keys → Octets → Octets → Octets → Octets)
 keys_there : (serial : ℕ) (associations : List Association) (a : Association) (keys : KeyRecord) → association_of serial associations ≡ Some a → keys_in a.phase ≡ Some keys → keys_of_serial serial associations ≡ Some keys
 keys_there serial associations a keys there keyed = ap (λ (o : Option Association). option_and_then (λ x. keys_in x.phase) o) there ∙ keyed
 
--- a request at an established association
+-- a request at an established IKE SA
 order_seals : (body_of : Keys → Octets → Octets → Octets → Octets) (setup : Setup) (serial : ℕ) (old : Held) (stepped : Stepped) (new : Held) (m : marks.Mark) (octets : Octets)
     → (is : AsksAt body_of setup serial old stepped new) (keys : KeyRecord) → is.association.phase ≡ phase.Established keys → (exchange : ℕ) (payloads : List Payload)
     → IsSealed body_of (keys_of is.association.role keys) setup.fresh.seal (request_message is.association exchange is.association.outgoing.next payloads) is.octets → peer_window payloads ≤ setup.config.window
@@ -482,9 +482,9 @@ step_goes laws meaning entries (ike.Secret secret) old table stepped new new_tab
 step_goes laws meaning entries (ike.Tick moment) old table stepped new new_table sound steps mark sent named said =
     absurd (none_some mark (sym (ap (λ (x : Stepped). x.trace.sent) steps.takes.said) ∙ named))
 
--- ---- the association that a message was taken by
+-- ---- the IKE SA that a message was taken by
 
--- what is told of a message that is counted, or takes effect, at the association with this serial
+-- what is told of a message that is matched, or is processed, at the IKE SA with this serial
 abbrev pub IsTold : Stepped → ℕ → Type 0
 IsTold stepped serial =
     ((child : Option ℕ) × (closed : Option ℕ) × (stepped.output ≡ output.Counted serial child closed))
@@ -505,7 +505,7 @@ module _ (meaning : Meaning) (setup : Setup) (cookies : CookieSecrets) (from oct
   abbrev IsTaken : Type 0
   IsTaken = TakenBy meaning setup octets old table new new_table serial
 
-  -- of what is counted, or marked, nothing else is said
+  -- of what is matched, or marked, nothing else is said
   abbrev SaysOther : IkeOutput → Type 0
   SaysOther (output.Counted serial child closed) = ⊥
   SaysOther o = Unit {0}

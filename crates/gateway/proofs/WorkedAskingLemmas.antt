@@ -1,4 +1,4 @@
--- The gateway of the end that asks in the worked world is sound, and counts the response.
+-- The gateway of the end that asks in the worked world is sound, and matches the response.
 use Rattle.std.proofs.Common.{◌≡◌, ◌<◌, ◌≤◌, inl, inr, ℕ, Bool, false, cond, [], Some, None, Option, length, ap, arith, refl, subst, sym, ◌∙◌}
 use Rattle.std.proofs.lemmas.Bool.{eq-eqb, ne_eqb}
 use Rattle.std.proofs.lemmas.Bool.Decides.{eqb_tells}
@@ -129,7 +129,7 @@ asking_in_time = record {
   };
 }
 
--- ---- the response is counted
+-- ---- the response is matched
 
 asked_there_two : map.get asking_association.outgoing.outstanding 2 ≡ Some asked_request
 asked_there_two = map.get-insert nat_cmp_total nothing_asked 2 asked_request 2 ∙ ap (λ b. cond b (Some asked_request) (map.get nothing_asked 2)) (unsigned_tied 2 2 ∙ eq-eqb 2 2 refl)

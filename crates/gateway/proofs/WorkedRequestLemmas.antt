@@ -431,7 +431,7 @@ sound_association incoming fine = record {
 pub same_association : (one other : Association) → Some one ≡ Some other → one ≡ other
 same_association one other is = cc
 
--- the list has the one association
+-- the list has the one IKE SA
 each_is : (P : Association → Type 0) (a : Association) → P a → (place : ℕ) (b : Association) → slice_get (a ∷ []) place ≡ Some b → P b
 each_is P a holds zero b is = subst P (same_association a b is) holds
 each_is P a holds (suc place) b is = absurd cc

@@ -263,7 +263,7 @@ module _ (request reply : Octets) where
       };
     }
 
--- ---- the associations that are held
+-- ---- the IKE SAs that are held
 
 serial_is : (a : Association) (s : ℕ) (b : Association) → a.serial ≡ 1 → association_of s (a ∷ []) ≡ Some b → s ≡ 1
 serial_is a s b one found = elim (eqb_tells a.serial s) [

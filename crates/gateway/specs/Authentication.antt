@@ -11,14 +11,14 @@ use Rattle.gateway.specs.Histories.{Passage}
 use Rattle.gateway.specs.Requests.{for_ike}
 use Rattle.gateway.specs.States.{association_in, State}
 
--- the IKE association with this serial is held, and established under these keys
+-- the IKE SA with this serial is held, and established under these keys
 pub record IsEstablishedWith {C : Type 0} (s : State C) (serial : ℕ) (keys : KeyRecord) : Type 0 where
   pub association : Association
   pub there : association_in s serial ≡ Some association
   pub established : association.phase ≡ Established keys
 
--- With the step at this place the peer of the IKE association with this serial proves itself as the
--- configured one, under these keys: the input is a datagram that opens under them, which the association had
+-- With the step at this place the peer of the IKE SA with this serial proves itself as the
+-- configured one, under these keys: the input is a datagram that opens under them, which the IKE SA had
 -- before, and the caller's check accepts what it opens to.
 pub record ProvesItselfAt {C : Type 0} (meaning_of : C → Meaning) (passages : List (Passage C)) (place serial : ℕ) (keys : KeyRecord) : Type 0 where
   pub passage : Passage C

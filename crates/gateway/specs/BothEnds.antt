@@ -1,5 +1,5 @@
 -- What is promised of both ends of a world over a list of events, beside that their requests keep in step.
--- It is of their windows, their children and the children's packets (RFC 7296 sections 1.2, 1.3.1, 2.3, 2.9
+-- It is of their windows, their Child SAs and the children's packets (RFC 7296 sections 1.2, 1.3.1, 2.3, 2.9
 -- and 2.17; RFC 4301 sections 4.1, 5.1 and 5.2; RFC 4303 sections 3.3 and 3.4).
 use Rattle.std.specs.Prelude.{◌≡◌, ◌++◌, ℕ, List, Contains, Some, slice_get, take}
 use Rattle.base.specs.Octets.{Octets}
@@ -20,14 +20,14 @@ use Rattle.gateway.specs.declared.output.Output.{Output}
 use Rattle.gateway.specs.declared.world.stored.Child.{Child}
 
 -- The whole invariant of a world under a key record (*wholly sound*): it is sound, and it accounts for its
--- windows and its children under the record and for its pairs. A new world is so.
+-- windows and its Child SAs under the record and for its pairs. A new world is so.
 pub record IsWhollySound {C : Type 0} (body_of : Keys → Octets → Octets → Octets → Octets) (plain_of : Opening) (keys : KeyRecord) (w : WorldState C) : Type 0 where
   pub sound : IsSoundUnder keys w
   pub windows : AccountsForWindows body_of plain_of keys w w.stored
   pub children : AccountsForChildren body_of plain_of keys w w.stored
   pub pairs : AccountsForPairs w
 
--- What is promised of the children under a key record after a list of events. The children of one request
+-- What is promised of the Child SAs under a key record after a list of events. The children of one request
 -- mirror each other. So do the pairs that both ends hold of it, at the end and after each event. What such
 -- a child delivered in the list, the other end sealed. That assumes that no packet to the child was forged,
 -- and that the other end had no other child that sends under its inbound SPI and key.
@@ -40,7 +40,7 @@ pub record ChildrenAgree {C : Type 0} (keys : KeyRecord) (happenings : List (Hap
 
 -- A list of events keeps the whole invariant, where no message under the record was forged and neither end
 -- came to it twice. Then neither end assumes a wider window than the other is configured with, and the
--- children agree. Whatever comes, a world accounts for its pairs, after each step too; what is delivered is
+-- Child SAs agree. Whatever comes, a world accounts for its pairs, after each step too; what is delivered is
 -- of a child that is stored; and no number of a child delivers twice.
 pub record PromisesOfBothEnds {C : Type 0} (body_of : Keys → Octets → Octets → Octets → Octets) (plain_of : Opening) (meaning_of : C → Meaning) (happenings : List (Happening C)) (old new : WorldState C) : Type 0 where
   pub stays : (keys : KeyRecord) → IsWhollySound body_of plain_of keys old → IsUnforged meaning_of keys happenings new.stored → IsNeverMadeTwice keys new.stored

@@ -16,7 +16,7 @@ is_after_judging_packet (Packet fault) = is_after_judging fault
 is_after_judging_packet (Ike fault) = false
 is_after_judging_packet Memory = false
 
--- the refusal is for want of memory
+-- the refusal is an allocation failure
 abbrev pub is_want_of_memory : Reason → Bool
 is_want_of_memory (Ike fault) = ike.is_want_of_memory fault
 is_want_of_memory (Packet fault) = false

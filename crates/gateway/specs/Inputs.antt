@@ -16,9 +16,9 @@ pub data Input : Type 0 where
   Outward : Octets → Input
   -- a packet that came in unprotected
   Inward : Octets → Input
-  -- the command to ask for a child by an entry of the policy, under an IKE SA where its serial is given
+  -- the command to ask for a Child SA by an entry of the policy, under an IKE SA where its serial is given
   Start : Option ℕ → (entry : ℕ) → Fresh → Input
-  -- the commands about an IKE SA or a child
+  -- the commands about an IKE SA or a Child SA
   Probe : (ike : ℕ) → Fresh → Input
   DeleteChild : (child : ℕ) → Fresh → Input
   DeleteIke : (ike : ℕ) → Fresh → Input

@@ -1,4 +1,4 @@
--- What two gateways agree on beside their requests: children, packets and windows.
+-- What two gateways agree on beside their requests: Child SAs, packets and windows.
 use Rattle.std.specs.Prelude.{List}
 use Rattle.base.specs.Octets.{Octets}
 use Rattle.suite.specs.declared.key_record.KeyRecord.{KeyRecord}

@@ -2,12 +2,12 @@
 use Rattle.std.specs.Prelude.{ℕ, Option, Some, None, List, [], ◌++◌, length, codes, decimal}
 use Rattle.gateway.specs.Outputs as output
 
--- the child that was made
+-- the Child SA that was made
 abbrev pub made_text : Option ℕ → List ℕ
 made_text None = []
 made_text (Some serial) = codes ", child " ++ decimal serial ++ codes " made"
 
--- the IKE association that was closed
+-- the IKE SA that was closed
 abbrev pub closed_text : Option ℕ → List ℕ
 closed_text None = []
 closed_text (Some serial) = codes ", ike " ++ decimal serial ++ codes " closed"
@@ -16,7 +16,7 @@ closed_text (Some serial) = codes ", ike " ++ decimal serial ++ codes " closed"
 abbrev pub again_text : ℕ → List ℕ
 again_text count = codes ", " ++ decimal count ++ codes " requests again"
 
--- how many IKE associations a moment closed
+-- how many IKE SAs a tick closed
 abbrev pub count_text : ℕ → List ℕ
 count_text count = codes ", " ++ decimal count ++ codes " closed"
 

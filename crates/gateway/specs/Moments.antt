@@ -42,7 +42,7 @@ pub record BringsNone {C : Type 0} (p : Passage C) : Type 0 where
 
 -- A request is retransmitted, and an IKE SA is closed or removed, at the first `Tick` that reaches its time
 -- by the timers as they stand. So before each step and after it nothing is overdue at the greatest time so
--- far, and no timer starts in the future. A `Tick` that is refused for want of memory changes nothing but
+-- far, and no timer starts in the future. A `Tick` that is refused on allocation failure changes nothing but
 -- the table's spare capacity (`RequestsTakeEffect.undelivered`). That an IKE SA is removed by a `Tick`
 -- alone stands in `RepeatsAreAnswered.held`.
 pub record MomentsComeInTime {C : Type 0} (passages : List (Passage C)) : Type 0 where

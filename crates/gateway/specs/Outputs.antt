@@ -16,13 +16,13 @@ use Rattle.gateway.specs.declared.fault.Reason.TheVariants as reason
 use Rattle.gateway.specs.declared.output.Output.{Output}
 use Rattle.gateway.specs.declared.output.Output.TheVariants as output
 
--- IKE SAs and children are named by their serials
+-- IKE SAs and Child SAs are named by their serials
 pub data OutputView : Type 0 where
   -- a response to the peer, and the IKE SA that its request closed
   Reply : Octets → Option ℕ → OutputView
   Repeat : Octets → OutputView
   Request : (ike : ℕ) → Octets → OutputView
-  -- a response under this IKE SA was matched; the child that it made, and the IKE SA that it closed
+  -- a response under this IKE SA was matched; the Child SA that it made, and the IKE SA that it closed
   Counted : (ike : ℕ) → Option ℕ → Option ℕ → OutputView
   -- the requests to retransmit, and the IKE SAs that were closed
   Ticked : List Resent → List ℕ → OutputView
@@ -101,7 +101,7 @@ abbrev pub FewAgain : OutputView → ℕ → Type 0
 FewAgain (Ticked requests closed) most = length requests ≤ most
 FewAgain _ most = Unit {0}
 
--- the input was refused for want of memory
+-- the input was refused on allocation failure
 abbrev pub wants_memory : OutputView → Bool
 wants_memory (Refused why) = is_want_of_memory why
 wants_memory _ = false
@@ -111,7 +111,7 @@ abbrev pub FewSelectors : Option Pair → Type 0
 FewSelectors None = Unit {0}
 FewSelectors (Some pair) = HasFewSelectors pair
 
--- the child that is made has few enough selectors on either side
+-- the Child SA that is made has few enough selectors on either side
 abbrev pub FitsChild : Option MadeChild → PairMap → Type 0
 FitsChild None pairs = Unit {0}
 FitsChild (Some made) pairs = FewSelectors (pair_at pairs made.serial)

@@ -1,5 +1,5 @@
 -- ESP packets over a run: which are accepted and when, and the output for each (RFC 4301 section 5.2, RFC
--- 4303 section 3.4). A step accepts a packet as number n of a child where it *judges* it so. Its place in
+-- 4303 section 3.4). A step accepts a packet as number n of a Child SA where it *judges* it so. Its place in
 -- the list of transitions is that of its input in the list that was given. A child is named by the serial
 -- of its pair.
 use Rattle.std.specs.Prelude.{◌≡◌, ◌↔◌, ◌<◌, ◌≤◌, ℕ, false, Option, Some, None, List, map, slice_get}
@@ -47,7 +47,7 @@ abbrev pub table_passages : {C : Type 0} → List (Passage C) → List tables.Pa
 table_passages passages = map table_passage passages
 
 -- At this step an ESP packet of these octets came. The table sees it with the output as its outcome. It is
--- never refused for want of memory, and the IKE machine, the policy and the provider stay as they are.
+-- never refused on allocation failure, and the IKE machine, the policy and the provider stay as they are.
 pub record TakesPacket {C : Type 0} (octets : Octets) (p : Passage C) : Type 0 where
   pub outcome : traffic.Outcome
   pub said : p.said ≡ view_of_outcome outcome
@@ -55,7 +55,7 @@ pub record TakesPacket {C : Type 0} (octets : Octets) (p : Passage C) : Type 0 w
   pub memory : wants_memory p.said ≡ false
   pub kept : p.after ≡ record p.before { table = p.after.table }
 
--- At this step an ESP packet of these octets came and was accepted as this number of the child. The number
+-- At this step an ESP packet of these octets came and was accepted as this number of the Child SA. The number
 -- is marked in the child's replay window; nothing else of the gateway changes.
 pub record JudgesPacket {C : Type 0} (child number : ℕ) (octets : Octets) (p : Passage C) : Type 0 where
   pub given : p.given ≡ input.Esp octets
@@ -81,9 +81,9 @@ pub record TurnsAway {C : Type 0} (p : Passage C) : Type 0 where
   pub before_judging : is_after_judging fault ≡ false
   pub unchanged : p.after ≡ p.before
 
--- No number of a child is accepted twice, whatever is given, and none of a child that is gone. Where no ICV
--- is forged, each ESP packet that was sent to a child is accepted at its first arrival, and only there. Its
--- pair must be installed, and its number rightly recovered, inside or above the window, and not taken
+-- No number of a Child SA is accepted twice, whatever is given, and none of a child that is gone. Where no
+-- ICV is forged, each ESP packet that was sent to a child is accepted at its first arrival, and only there.
+-- Its pair must be installed, and its number rightly recovered, inside or above the window, and not taken
 -- before the list. The output there is the verdict on its payload. No other ESP packet delivers or changes
 -- anything.
 pub record PacketsAreDelivered {C : Type 0} (passages : List (Passage C)) : Type 0 where
@@ -94,7 +94,7 @@ pub record PacketsAreDelivered {C : Type 0} (passages : List (Passage C)) : Type
   -- the gateway accepts what its table accepts
   pub judges : (place child number : ℕ) (p : Passage C) → slice_get passages place ≡ Some p
       → IsJudgedAs child number (table_passage p) ↔ JudgesOne child number p
-  -- no number of a child is accepted at two steps
+  -- no number of a Child SA is accepted at two steps
   pub once : (place other child number : ℕ) (p q : Passage C) → slice_get passages place ≡ Some p → slice_get passages other ≡ Some q
       → JudgesOne child number p → JudgesOne child number q → place ≡ other
   -- an accepted packet has the output that its payload demands
@@ -107,11 +107,11 @@ pub record PacketsAreDelivered {C : Type 0} (passages : List (Passage C)) : Type
       → JudgesOne child number p
   pub otherwise : (place : ℕ) (octets : Octets) (p : Passage C) → slice_get passages place ≡ Some p → p.given ≡ input.Esp octets
       → ((child number : ℕ) → ¬ JudgesOne child number p) → TurnsAway p
-  -- no packet of a child that is gone is accepted any more, whether it went before the list or in it: its
+  -- no packet of a Child SA that is gone is accepted any more, whether it went before the list or in it: its
   -- serial isn't given again
   pub gone : (first place child number : ℕ) (p q : Passage C) → first ≤ place → slice_get passages first ≡ Some p → slice_get passages place ≡ Some q
       → child < p.before.table.next → pair_at p.before.table.pairs child ≡ None → ¬ JudgesOne child number q
-  -- where no ICV was forged, what was sent to a child is accepted at its first arrival, and only there
+  -- where no ICV was forged, what was sent to a Child SA is accepted at its first arrival, and only there
   pub at_first : (child : ℕ) (sent : numbers.FinMap nat_cmp Octets)
       → Unforged child (table_passages passages) (judged.children child).numbers sent
       → (place number : ℕ) (p : Passage C) → slice_get passages place ≡ Some p

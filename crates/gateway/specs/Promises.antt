@@ -10,8 +10,8 @@ use Rattle.gateway.specs.Requests.{RepeatsAreAnswered, RequestsTakeEffect}
 use Rattle.gateway.specs.States.{State}
 use Rattle.gateway.specs.declared.output.Output.{Output}
 
--- what is promised of who is established, of the peer's requests, of their repeats, of moments, and of ESP
--- packets, over these steps
+-- what is promised of who is established, of the peer's requests, of their retransmissions, of ticks, and of
+-- ESP packets, over these steps
 pub record AreKept {C : Type 0} (meaning_of : C → Meaning) (passages : List (Passage C)) : Type 0 where
   pub requests : RequestsTakeEffect meaning_of passages
   pub repeats : RepeatsAreAnswered meaning_of passages

@@ -1,6 +1,6 @@
--- The peer's requests over a run: which take effect and when, and how a retransmission is answered (RFC
+-- The peer's requests over a run: which are processed and when, and how a retransmission is answered (RFC
 -- 7296 sections 2.1 to 2.3). A place in the list of transitions is that of its input in the list that was
--- given. A request that took effect is *in effect* from then on.
+-- given. A request that was processed is *in effect* from then on.
 use Rattle.std.specs.Prelude.{◌≡◌, ◌⊎◌, ◌↔◌, ◌<◌, ◌≤◌, ℕ, suc, true, false, Option, Some, None, List, slice_get}
 use Rattle.std.specs.FinMap as map
 use Rattle.base.specs.Octets.{Octets}
@@ -54,7 +54,7 @@ abbrev pub IsDatagram : Option ike.InputView → Octets → Type 0
 IsDatagram None octets = ⊥
 IsDatagram (Some given) octets = IsOfOctets given octets
 
--- at this step the request with this Message ID takes effect under an IKE SA
+-- at this step the request with this Message ID is processed under an IKE SA
 pub record TakesEffect {C : Type 0} (serial number : ℕ) (p : Passage C) : Type 0 where
   pub old : Association
   pub new : Association
@@ -71,7 +71,7 @@ pub record OnlySays {C : Type 0} (s : OutputView) (p : Passage C) : Type 0 where
   pub said : p.said ≡ s
   pub unchanged : p.after ≡ p.before
 
--- it takes effect at one of these steps, from the first place to before the second
+-- it is processed at one of these steps, from the first place to before the second
 pub record TookEffect {C : Type 0} (passages : List (Passage C)) (serial number from until : ℕ) : Type 0 where
   pub place : ℕ
   pub least : from ≤ place
@@ -93,22 +93,23 @@ abbrev pub IsInitial : Option ike.InputView → Type 0
 IsInitial None = ⊥
 IsInitial (Some given) = IsInitialDatagram given
 
--- some request took effect at this step
+-- some request was processed at this step
 pub record TakesOne {C : Type 0} (p : Passage C) : Type 0 where
   pub serial : ℕ
   pub number : ℕ
   pub takes : TakesEffect serial number p
 
--- A request of an IKE SA with keys takes effect at most once, exactly where it is delivered new. It opens
+-- A request of an IKE SA with keys is processed at most once, exactly where it is delivered new. It opens
 -- as a request whose number is not in effect and lies below the least such number plus the window, and its
--- exchange belongs to the phase. An input that is refused for want of memory counts as lost.
+-- exchange belongs to the phase. An input that is refused on allocation failure counts as lost.
 pub record RequestsTakeEffect {C : Type 0} (meaning_of : C → Meaning) (passages : List (Passage C)) : Type 0 where
   pub exactly : (place serial number : ℕ) (p : Passage C) (a : Association) → slice_get passages place ≡ Some p → association_in p.before serial ≡ Some a
       → TakesEffect serial number p ↔ ((wants_memory p.said ≡ false) × IsNew (meaning_of p.before.caller) (for_ike p.given) a number)
   pub answered : (place serial number : ℕ) (p : Passage C) → slice_get passages place ≡ Some p → TakesEffect serial number p → IsReplied serial number p
   pub once : (place other serial number : ℕ) (p q : Passage C) → slice_get passages place ≡ Some p → slice_get passages other ≡ Some q
       → TakesEffect serial number p → TakesEffect serial number q → place ≡ other
-  -- what is in effect after a step was in effect before that step or an earlier one, or took effect between
+  -- what is in effect after a step was in effect before that step or an earlier one, or was processed
+  -- between
   pub in_effect : (first place serial number : ℕ) (p q : Passage C) (a b : Association) → first ≤ place → slice_get passages first ≡ Some p
       → slice_get passages place ≡ Some q → association_in p.before serial ≡ Some a → association_in q.after serial ≡ Some b
       → HasNumber b.incoming.in_effect number ↔ (HasNumber a.incoming.in_effect number ⊎ TookEffect passages serial number first (suc place))
@@ -119,7 +120,7 @@ pub record RequestsTakeEffect {C : Type 0} (meaning_of : C → Meaning) (passage
   -- that it does)
   pub window : (place serial : ℕ) (p : Passage C) (a b : Association) → slice_get passages place ≡ Some p → association_in p.before serial ≡ Some a
       → association_in p.after serial ≡ Some b → KeepsWindow p.before.machine.config.window a b
-  -- what opens and is not new is dropped, or gets the kept response, and changes nothing
+  -- what opens and is not new is dropped, or gets the cached response, and changes nothing
   pub otherwise : (place serial number : ℕ) (p : Passage C) (a : Association) → slice_get passages place ≡ Some p → wants_memory p.said ≡ false
       → association_in p.before serial ≡ Some a → Opens (meaning_of p.before.caller) (for_ike p.given) a number
       → ¬ IsNew (meaning_of p.before.caller) (for_ike p.given) a number → IsQuiet p.said × (p.after ≡ p.before)
@@ -154,7 +155,7 @@ pub record KeepsHalfOpen {C : Type 0} (serial : ℕ) (request reply : Octets) (p
   pub same_request : opened.request ≡ request
   pub same_reply : opened.reply ≡ reply
 
--- the kept response is sent to a retransmitted request: one under keys, or one of IKE_SA_INIT
+-- the cached response is sent to a retransmitted request: one under keys, or one of IKE_SA_INIT
 pub record RepeatsRequest {C : Type 0} (meaning_of : C → Meaning) (reply : Octets) (p : Passage C) : Type 0 where
   pub serial : ℕ
   pub number : ℕ
@@ -194,7 +195,7 @@ pub record RepeatsAreAnswered {C : Type 0} (meaning_of : C → Meaning) (passage
       → IsDatagram (for_ike q.given) request → OnlySays (Repeat reply) q
   pub initial_kept : (place serial : ℕ) (request reply : Octets) (q : Passage C) → slice_get passages place ≡ Some q → wants_memory q.said ≡ false
       → KeepsHalfOpen serial request reply q → IsDatagram (for_ike q.given) request → OnlySays (Repeat reply) q
-  -- nothing else gets a kept response
+  -- nothing else gets a cached response
   pub only : (place : ℕ) (reply : Octets) (q : Passage C) → slice_get passages place ≡ Some q → q.said ≡ Repeat reply → RepeatsRequest meaning_of reply q ⊎ RepeatsInitial reply q
   -- an IKE SA is held until a `Tick` at which it expires
   pub held : (place serial : ℕ) (q : Passage C) (a : Association) → slice_get passages place ≡ Some q → association_in q.before serial ≡ Some a

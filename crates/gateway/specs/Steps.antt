@@ -109,7 +109,7 @@ pub record Steps {C : Type 0} (meaning : Meaning) (given : Input) (old : State C
   pub trace : Trace
   pub traces : Traces meaning given old said trace new
 
--- a packet that is to be protected is sealed, or its input is refused for want of memory
+-- a packet that is to be protected is sealed, or its input is refused on allocation failure
 abbrev pub GoesSealed : {C : Type 0} → Flow → Octets → State C → OutputView → State C → Type 0
 GoesSealed {C} flow packet old said new =
     ((outcome : Outcome) × (Protects old.table flow packet outcome new.table) × (said ≡ view_of_outcome outcome)) ⊎ (said ≡ Refused reason.Memory)

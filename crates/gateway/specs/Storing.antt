@@ -30,14 +30,14 @@ pub record AreSpare {Y Z : Type 0} (again : Vec (Vec ℕ Z) Y) (count : ℕ) : T
 abbrev pub IsShortResent : Resent → Type 0
 IsShortResent r = length r.octets ≤ MESSAGE_LIMIT
 
--- memory for one datagram's octets, for so many retransmitted requests, and for one child's selectors
+-- memory for one datagram's octets, for so many retransmitted requests, and for one Child SA's selectors
 pub record IsSpare (spare : Spare) (count : ℕ) : Type 0 where
   pub octets : (spare.octets.items ≡ []) × (DATAGRAM_LIMIT ≤ vec_capacity spare.octets)
   pub again : AreSpare spare.again count
   pub local : (spare.local.items ≡ []) × (SELECTOR_LIMIT ≤ vec_capacity spare.local)
   pub remote : (spare.remote.items ≡ []) × (SELECTOR_LIMIT ≤ vec_capacity spare.remote)
 
--- spare capacity for so many datagrams, one key record and one child
+-- spare capacity for so many datagrams, one key record and one Child SA
 pub record HasRoom (log : Log) (count : ℕ) : Type 0 where
   pub sent : vec_len log.sent + count < vec_capacity log.sent
   pub keyed : vec_len log.keyed < vec_capacity log.keyed

@@ -1,4 +1,4 @@
--- A witness run for the assumptions on requests and on retransmissions: a request comes and takes effect,
+-- A witness run for the assumptions on requests and on retransmissions: a request comes and is processed,
 -- and then it comes again.
 use Rattle.std.specs.Prelude.{◌≡◌, ◌+◌, ◌≤◌, ℕ, Some, None, List, [], ◌∷◌, false, length, replicate}
 use Rattle.std.specs.FinMap as map
@@ -127,8 +127,8 @@ pub record IsDelivered {C : Type 0} (p : Passage C) (a : Association) : Type 0 w
   pub held : association_in p.before 1 ≡ Some a
   pub opens : Opens worked_meaning (for_ike p.given) a 2
 
--- These are steps of a gateway in a row, under a provider whose laws hold. At the first a new request takes
--- effect and is answered. At the second it opens again: its response is kept, and it is neither below the
+-- These are steps of a gateway in a row, under a provider whose laws hold. At the first a new request is
+-- processed and is answered. At the second it opens again: its response is kept, and it is neither below the
 -- window nor new.
 pub record IsWorkedRequest {C : Type 0} (config : Config) (caller : C) (from : Octets) (fresh : Fresh) : Type 0 where
   pub trail : IsTrail (λ _. worked_meaning) (gateway_with config caller (worked_association first_taken)) (worked_requests config caller from fresh)

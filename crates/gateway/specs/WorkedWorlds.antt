@@ -1,5 +1,5 @@
 -- A witness world for the assumptions on both ends: each end holds an IKE SA under the same keys. The
--- request of one reaches the other and takes effect there, and its response comes back and is matched.
+-- request of one reaches the other and is processed there, and its response comes back and is matched.
 use Rattle.std.specs.Prelude.{◌≡◌, ◌++◌, true, false, None, List, [], ◌∷◌}
 use Rattle.std.specs.FinMap as map
 use Rattle.std.specs.FinSet as set
@@ -100,7 +100,7 @@ both_arrive {C} config caller request reply from fresh =
     request_arrives config caller request reply from fresh ∷ response_arrives config caller request reply from fresh ∷ []
 
 -- This takes place in a world that is sound under the keys, of two gateways whose invariants hold. The
--- request reaches B and takes effect, and its response reaches A and is matched. What comes under the keys
+-- request reaches B and is processed, and its response reaches A and is matched. What comes under the keys
 -- the other end sent before, and neither end came to them twice. Both hold the IKE SA afterwards, in both
 -- directions, and each counts a window of one for its peer.
 pub record IsWorkedWorld {C : Type 0} (config : Config) (caller : C) (request reply from : Octets) (fresh : Fresh) : Type 0 where

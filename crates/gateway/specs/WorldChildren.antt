@@ -1,4 +1,4 @@
--- The children that both ends of a world made: of which messages each was made, and that those of one
+-- The Child SAs that both ends of a world made: of which messages each was made, and that those of one
 -- request mirror each other (RFC 7296 sections 1.2, 1.3.1, 2.1, 2.9, 2.17 and 3.14; RFC 4301 sections 4.1
 -- and 4.4.2).
 use Rattle.std.specs.Prelude.{◌≡◌, ◌⊎◌, ℕ, Bool, true, false, List, [], ◌∷◌, Contains, Some, length}
@@ -68,7 +68,7 @@ pub record OpensToPayloads (plain_of : Opening) (keys : KeyRecord) (exchange : �
   pub opened : plain_of_message plain_of (keys_of sender keys) octets message.payloads ≡ Some plain
   pub read : SpellsChain plain.first payloads plain.octets
 
--- ---- children
+-- ---- Child SAs
 
 -- this is what was stored of the pair: the parts that never change while it is installed
 pub record IsStoredOf (child : Child) (pair : Pair) : Type 0 where
@@ -77,7 +77,7 @@ pub record IsStoredOf (child : Child) (pair : Pair) : Type 0 where
   pub local : child.local ≡ pair.local
   pub remote : child.remote ≡ pair.remote
 
--- The end asked for the child. It sent a request with the child's Message ID that seals an offer of one
+-- The end asked for the Child SA. It sent a request with the child's Message ID that seals an offer of one
 -- proposal, and the other end sent a response that opens. The child is what the asking end has by the
 -- payloads of both.
 pub record WasAskedFor (body_of : Keys → Octets → Octets → Octets → Octets) (plain_of : Opening) (child : Child) (stored : Stored) : Type 0 where
@@ -96,7 +96,7 @@ pub record WasAskedFor (body_of : Keys → Octets → Octets → Octets → Octe
   pub stored_of : IsStoredOf child pair
   pub is : IsChildOf kind Initiator child.keys asks answers pair
 
--- The end answered for the child. The other end sent a request with the child's Message ID that opens, and
+-- The end answered for the Child SA. The other end sent a request with the child's Message ID that opens, and
 -- this end a response that seals payloads. The child is what the answering end has by the payloads of both.
 pub record WasAnsweredFor (body_of : Keys → Octets → Octets → Octets → Octets) (plain_of : Opening) (child : Child) (stored : Stored) : Type 0 where
   pub kind : ChildKind
@@ -125,7 +125,7 @@ pub record SentRequest (body_of : Keys → Octets → Octets → Octets → Octe
   pub sent : HasSent end keys false number octets stored
   pub sealed : SealsPayloads body_of keys exchange false number payloads octets
 
--- An end that waits for the response of IKE_AUTH sent a request 1 that asks for the child that it waits
+-- An end that waits for the response of IKE_AUTH sent a request 1 that asks for the Child SA that it waits
 -- for. One that waits for an additional child sent the request of that Message ID which asks for it. (What
 -- was asked is forgotten once the child is made, so it is recorded here, while the response is
 -- outstanding.)
@@ -137,7 +137,7 @@ pub record AsksForItsChildren (body_of : Keys → Octets → Octets → Octets �
 
 -- ---- both ends
 
--- The invariant of the children under a key record, beside that the world is sound under it. An end that
+-- The invariant of the Child SAs under a key record, beside that the world is sound under it. An end that
 -- holds an IKE SA asked for the children that it waits for, and each child that was made was asked for or
 -- answered by its end. `stored` is what is stored of this world or of a later one: what counts as sent
 -- stands there.
@@ -145,7 +145,7 @@ pub record AccountsForChildren {C : Type 0} (body_of : Keys → Octets → Octet
   pub asks : (end : End) (a : Association) → HoldsUnder keys end w a → AsksForItsChildren body_of keys end a stored
   pub made : (child : Child) → Contains w.stored.children child → child.keys ≡ keys → WasMade child.asked body_of plain_of child stored
 
--- one end asked for the child by a request, and the other end answered it, under one key record
+-- one end asked for the Child SA by a request, and the other end answered it, under one key record
 pub record AreOfOneRequest (asked answered : Child) : Type 0 where
   pub keys : answered.keys ≡ asked.keys
   pub ends : answered.end ≡ other_end asked.end
@@ -153,11 +153,11 @@ pub record AreOfOneRequest (asked answered : Child) : Type 0 where
   pub answered_is : answered.asked ≡ false
   pub number : answered.number ≡ asked.number
 
--- both ends made this child, whichever asked
+-- both ends made this Child SA, whichever asked
 abbrev pub AreEndsOfOneChild : Child → Child → Type 0
 AreEndsOfOneChild one other = AreOfOneRequest one other ⊎ AreOfOneRequest other one
 
--- What one end sends by the child, the other receives by it, under the same SPI and key. Both directions
+-- What one end sends by the Child SA, the other receives by it, under the same SPI and key. Both directions
 -- have ESN or neither has (RFC 4303 section 2.2.1), and what is local to one is remote to the other.
 pub record MirrorEachOther (one other : Child) : Type 0 where
   pub inward : one.inbound ≡ other.outbound
@@ -166,7 +166,7 @@ pub record MirrorEachOther (one other : Child) : Type 0 where
   pub local : one.local ≡ other.remote
   pub remote : one.remote ≡ other.local
 
--- the children of one request under these keys that both ends made mirror each other
+-- the Child SAs of one request under these keys that both ends made mirror each other
 abbrev pub ChildrenMirror : {C : Type 0} → KeyRecord → WorldState C → Type 0
 ChildrenMirror {C} keys w =
     (asked answered : Child) → Contains w.stored.children asked → Contains w.stored.children answered → asked.keys ≡ keys → AreOfOneRequest asked answered → MirrorEachOther asked answered

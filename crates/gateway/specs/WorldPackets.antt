@@ -1,4 +1,4 @@
--- What both ends of a world carry by their children: which pairs they hold, and that what one end delivers
+-- What both ends of a world carry by their Child SAs: which pairs they hold, and that what one end delivers
 -- the other sealed (RFC 4301 sections 4.1, 4.4.2, 5.1 and 5.2; RFC 4303 sections 3.3 and 3.4).
 use Rattle.std.specs.Prelude.{◌≡◌, ◌⊎◌, ◌<◌, ℕ, List, Contains, Some, slice_get}
 use Rattle.base.specs.Octets.{Octets}
@@ -26,7 +26,7 @@ use Rattle.gateway.specs.declared.world.stored.End.{End}
 use Rattle.gateway.specs.declared.world.stored.Protection.TheVariants as mark
 use Rattle.gateway.specs.declared.world.stored.Simplex.{Simplex}
 
--- the end's table holds the pair of this child
+-- the end's table holds the pair of this Child SA
 abbrev pub HoldsPairOf : {C : Type 0} → Child → Pair → WorldState C → Type 0
 HoldsPairOf {C} child pair w = pair_at (gateway_at child.end w).table.pairs child.serial ≡ Some pair
 
@@ -35,14 +35,14 @@ pub record HoldsSomePairOf {C : Type 0} (child : Child) (w : WorldState C) : Typ
   pub pair : Pair
   pub held : HoldsPairOf child pair w
 
--- a child with this serial is stored of this end
+-- a Child SA with this serial is stored of this end
 pub record HasStored (end : End) (serial : ℕ) (stored : Stored) : Type 0 where
   pub child : Child
   pub there : Contains stored.children child
   pub end_is : child.end ≡ end
   pub serial_is : child.serial ≡ serial
 
--- A pair of this child sealed the packet into these octets, under this number, in some state of the table.
+-- A pair of this Child SA sealed the packet into these octets, under this number, in some state of the table.
 pub record WasSealedBy (policy : List Entry) (child : Child) (number : ℕ) (packet octets : Octets) : Type 0 where
   pub table : Database
   pub pair : Pair
@@ -51,7 +51,7 @@ pub record WasSealedBy (policy : List Entry) (child : Child) (number : ℕ) (pac
   pub table_after : Database
   pub sends : Sends table policy packet (Sealed child.serial number octets) table_after
 
--- some child that is stored of this end sealed so, by its outbound SA with this SPI and key
+-- some Child SA that is stored of this end sealed so, by its outbound SA with this SPI and key
 pub record WasSealedAt (policy : List Entry) (end : End) (by : Simplex) (number : ℕ) (octets : Octets) (stored : Stored) : Type 0 where
   pub child : Child
   pub there : Contains stored.children child
@@ -60,19 +60,19 @@ pub record WasSealedAt (policy : List Entry) (end : End) (by : Simplex) (number 
   pub packet : Octets
   pub sealed : WasSealedBy policy child number packet octets
 
--- The invariant of the pairs of both ends, whatever comes. Each pair that is held has a stored child, with
+-- The invariant of the pairs of both ends, whatever comes. Each pair that is held has a stored Child SA, with
 -- its SPIs, keys and selectors. A serial names one child of an end, for ever. Each ESP packet that was sent
 -- was sealed by a pair of a stored child.
 pub record AccountsForPairs {C : Type 0} (w : WorldState C) : Type 0 where
   pub stored : (end : End) (serial : ℕ) (pair : Pair) → pair_at (gateway_at end w).table.pairs serial ≡ Some pair → HasStored end serial w.stored
   pub same : (child : Child) (pair : Pair) → Contains w.stored.children child → HoldsPairOf child pair w → IsStoredOf child pair
-  -- a stored child's serial is below the next one, or its pair is still held, so no later pair gets it
+  -- a stored Child SA's serial is below the next one, or its pair is still held, so no later pair gets it
   pub given : (child : Child) → Contains w.stored.children child → (child.serial < (gateway_at child.end w).table.next) ⊎ HoldsSomePairOf child w
   pub alone : (one other : Child) → Contains w.stored.children one → Contains w.stored.children other → one.end ≡ other.end → one.serial ≡ other.serial → one ≡ other
   pub sealed : (end : End) (by : Simplex) (number : ℕ) (octets : Octets) → Contains w.stored.sent (datagram_of end (mark.Esp by number) octets)
       → WasSealedAt (gateway_at end w).entries end by number octets w.stored
 
--- where both ends hold their pairs of the child of one request under these keys, these mirror each other
+-- where both ends hold their pairs of the Child SA of one request under these keys, these mirror each other
 abbrev pub PairsMirror : {C : Type 0} → KeyRecord → WorldState C → Type 0
 PairsMirror {C} keys w =
     (asked answered : Child) (one other : Pair) → Contains w.stored.children asked → Contains w.stored.children answered → asked.keys ≡ keys → AreOfOneRequest asked answered
@@ -85,7 +85,7 @@ pub record HasSentPacket (end : End) (spi : ℕ) (key : Octets) (number : ℕ) (
   pub key_is : by.key ≡ key
   pub sent : Contains stored.sent (datagram_of end (mark.Esp by number) octets)
 
--- An ESP packet of these octets comes to this child, whose pair is held, and is accepted as this number.
+-- An ESP packet of these octets comes to this Child SA, whose pair is held, and is accepted as this number.
 -- Its ICV is right under the held pair's inbound SPI and key, and the number is new and in reach of its
 -- window (RFC 4303 sections 3.4.3 and 3.4.4).
 pub record IsJudgedAt {C : Type 0} (child : Child) (number : ℕ) (octets : Octets) (h : Happening C) : Type 0 where
@@ -96,22 +96,22 @@ pub record IsJudgedAt {C : Type 0} (child : Child) (number : ℕ) (octets : Octe
   pub own : pair.serial ≡ child.serial
   pub judged : Judges pair.inbound.association pair.inbound.window octets number
 
--- The assumption that no packet to this child was forged: what is accepted so, the other end has sent under
--- the child's inbound SPI and key, with this number, by the end of the list.
+-- The assumption that no packet to this Child SA was forged: what is accepted so, the other end has sent
+-- under the child's inbound SPI and key, with this number, by the end of the list.
 abbrev pub IsUnforgedTo : {C : Type 0} → Child → List (Happening C) → Stored → Type 0
 IsUnforgedTo {C} child happenings stored =
     (place number : ℕ) (octets : Octets) (h : Happening C) → slice_get happenings place ≡ Some h → IsJudgedAt child number octets h
     → HasSentPacket (other_end child.end) child.inbound.spi child.inbound.key number octets stored
 
--- The assumption of one sender: the other end never had another child that sends under this child's inbound
--- SPI and key.
+-- The assumption of one sender: the other end never had another Child SA that sends under this child's
+-- inbound SPI and key.
 abbrev pub HasOneSender : Child → Stored → Type 0
 HasOneSender child stored =
     (other : Child) → Contains stored.children other → other.end ≡ other_end child.end → other.outbound.spi ≡ child.inbound.spi → other.outbound.key ≡ child.inbound.key
     → AreEndsOfOneChild child other
 
 -- The packet is, octet for octet, what one stored ESP packet carries, which arrived. The other end's pair
--- of this child sealed it under this number, the policy of that end protects it outward, and that pair
+-- of this Child SA sealed it under this number, the policy of that end protects it outward, and that pair
 -- covers it (RFC 4301 section 5.1).
 pub record WasSealedByOther {C : Type 0} (child : Child) (number : ℕ) (packet : Octets) (h : Happening C) (w : WorldState C) : Type 0 where
   pub other : Child
@@ -126,7 +126,7 @@ pub record WasSealedByOther {C : Type 0} (child : Child) (number : ℕ) (packet 
   pub protected : IsDecided (gateway_at other.end w).entries Outward packet flow Protect
   pub covered : Covers other.local other.remote flow
 
--- all that this child delivers was sealed so
+-- all that this Child SA delivers was sealed so
 abbrev pub HandsUpWhatWasSealed : {C : Type 0} → Child → List (Happening C) → WorldState C → Type 0
 HandsUpWhatWasSealed {C} child happenings w =
     (place number : ℕ) (packet : Octets) (h : Happening C) → slice_get happenings place ≡ Some h → h.event.end ≡ child.end → h.said ≡ Up child.serial number packet

@@ -42,11 +42,11 @@ IsUnforgedByThen {C} meaning_of keys happenings =
     → ComesUnder meaning_of keys response number octets h → HasSent (other_end h.event.end) keys response number octets h.before.stored
 
 -- Message IDs keep in step. Both ends hold an IKE SA under these keys, one as initiator and one as
--- responder. For the requests of either end: what took effect at the answering end was issued by the asking
--- end, and what the asking end counts as answered took effect at the answering end (section 2.2). Both keep
--- within the windows, as the asking end counts that of the other (section 2.3). Where it counts a window of
--- one, they go step by step. What an end that holds one took, the other has sent, also where the other
--- holds none any more; IKE_SA_INIT, with Message ID 0, is left out. All requests that an end sent under
+-- responder. For the requests of either end: what was processed at the answering end was issued by the
+-- asking end, and what the asking end counts as answered was processed at the answering end (section 2.2).
+-- Both keep within the windows, as the asking end counts that of the other (section 2.3). Where it counts a
+-- window of one, they go step by step. What an end that holds one took, the other has sent, also where the
+-- other holds none any more; IKE_SA_INIT, with Message ID 0, is left out. All requests that an end sent under
 -- these keys with one Message ID are the same octets, and so are all responses (section 2.1).
 pub record EndsAgree {C : Type 0} (keys : KeyRecord) (w : WorldState C) : Type 0 where
   pub issued : (end : End) (asking answering : Association) → AreBothHeld keys end w asking answering

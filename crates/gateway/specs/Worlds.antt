@@ -1,4 +1,4 @@
--- Two gateways, and the log of them: what was sent under which keys, which keys and which children were
+-- Two gateways, and the log of them: what was sent under which keys, which keys and which Child SAs were
 -- made.
 use Rattle.std.specs.Prelude.{◌≡◌, ◌++◌, ◌∷◌, ℕ, zero, suc, List, [], false, Option, Some, None, map, slice_get, refl, if◌then◌else◌}
 use Rattle.std.specs.Coded.{Coded, code_by, coded×}
@@ -160,7 +160,7 @@ child_with end made (Some keys) (Some pair) = Some (record {
   remote = pair.remote;
 })
 
--- the child that a step made
+-- the Child SA that a step made
 abbrev pub child_by : {C : Type 0} → End → Option MadeChild → State C → Option Child
 child_by end None gateway = None
 child_by end (Some made) gateway =

@@ -12,15 +12,15 @@
 //!
 //! - Message IDs keep in step, as [`lockstep`] says of two parties;
 //! - neither end assumes a wider window than its peer is configured with;
-//! - the children of one request mirror each other;
+//! - the Child SAs of one request mirror each other;
 //! - what one end delivers, the other sealed.
 //!
 //! # Inputs and outputs
 //!
 //! A host gives each datagram and packet as an [`Input`] that lends its octets, commands (`Start`, `Probe`,
-//! `DeleteChild`, `DeleteIke`), and moments: milliseconds of a clock of its own, which never goes back.
+//! `DeleteChild`, `DeleteIke`), and times: milliseconds of a clock of its own, which never goes back.
 //! `Start` names an entry by its place in the policy; with `ike: None` it begins a new IKE SA, with an IKE
-//! SA's serial it asks that one for a further child. Serials count from 1, and
+//! SA's serial it asks that one for an additional Child SA. Serials count from 1, and
 //! `table().after(0)` is the first child there is. [`Fresh`] is random octets, drawn anew for each input.
 //!
 //! What comes is an [`Output`], which prints as one line:
@@ -224,7 +224,7 @@
 //! - what is refused changes nothing but spare capacity (`LawLemmas`).
 //!
 //! Of two gateways, a step is a turn of its party in [`lockstep`] (`TurnLemmas`), and by induction on the
-//! events both parties stay sound (`SoundWorldLemmas`). Windows, children and pairs have invariants of their
+//! events both parties stay sound (`SoundWorldLemmas`). Windows, Child SAs and pairs have invariants of their
 //! own, kept event by event (`WindowWorldLemmas`, `ChildLemmas`, `PairLemmas`). `CarryLemmas` joins these,
 //! with `MirrorLemmas` and what [`traffic`] says of mirrored pairs. `World` reserves all memory before a
 //! step (`FittingLemmas`), so nothing that was sent is lost. The files `Worked..` show that the assumptions

@@ -56,7 +56,7 @@ impl<'a> fmt::Display for Output<'a> {
     }
 }
 
-// The child that was made, if one was.
+// The Child SA that was made, if one was.
 #[derive(Drop)]
 struct Made(Option<u32>);
 
@@ -74,7 +74,7 @@ impl fmt::Display for Made {
     }
 }
 
-// The IKE association that was closed, if one was.
+// The IKE SA that was closed, if one was.
 #[derive(Drop)]
 struct Ended(Option<u32>);
 
@@ -107,7 +107,7 @@ impl<'a> fmt::Display for Again<'a> {
     }
 }
 
-// How many IKE associations a moment closed.
+// How many IKE SAs a tick closed.
 #[derive(Drop)]
 struct Failed<'a>(&'a Items<u32>);
 

@@ -106,8 +106,8 @@ impl<C> Gateway<C> {
     /// where no time of 64 bits does. A host that has nothing else to do may sleep until then. Takes no
     /// memory.
     ///
-    /// It lies after the greatest moment so far. A step may bring it nearer or put it off, so it is asked for
-    /// anew after each. Before it a moment changes nothing else
+    /// It lies after the greatest time so far. A step may bring it nearer or put it off, so it is asked for
+    /// anew after each. Before it a tick changes nothing else
     /// ([`nothing_comes_before_the_next_moment`](crate::laws::nothing_comes_before_the_next_moment)), and
     /// this one does something, where memory doesn't run out
     /// ([`the_next_moment_brings_something`](crate::laws::the_next_moment_brings_something)).
@@ -121,7 +121,7 @@ impl<C> Gateway<C> {
 
     /// The invariant of every gateway, as a function that does nothing. Machine and table satisfy theirs.
     /// Nothing is overdue at the greatest time so far. Each SPI that is reserved in the table is held by an
-    /// IKE SA, for a child that it asked for.
+    /// IKE SA, for a Child SA that it asked for.
     pub fn invariants_hold(&self)
         ensures machine { IsSoundMachine self.now.machine self.now.table }
         ensures table { IsSoundTable self.now.table }
@@ -166,7 +166,7 @@ impl<C: Sealer + Agreement + Proof> Gateway<C> {
     }
 
     /// One step as [`step`](Gateway::step), that also returns the trace: which message was sent under which
-    /// IKE keys, and which keys and which child were made.
+    /// IKE keys, and which keys and which Child SA were made.
     pub fn traced_step<'a>(&mut self, alloc: Global, input: &Input<'a>) -> Traced<'a>
         ensures { Traces
             (meaning_of C.Sealer C.Agreement C.Proof self.old.caller)

@@ -10,17 +10,17 @@ use ike::{IkeOutput, Stepped, Trace};
 use moments::{Resent, Ticked};
 use traffic::{Admission, Arrival, Departure};
 
-/// What comes of one input. IKE SAs and children are named by their serials.
+/// What comes of one input. IKE SAs and Child SAs are named by their serials.
 #[derive(Debug, Drop, PartialEq, Eq)]
 pub enum Output<'a> {
-    /// A request of the peer is answered for the first time, by these octets. It took effect, or it is one
-    /// of IKE_SA_INIT that gets a notice alone, such as a cookie.
+    /// A request of the peer is answered for the first time, by these octets. It was processed, or it is one
+    /// of IKE_SA_INIT that gets a notification alone, such as a cookie.
     Reply {
         octets: Items<u8>,
         /// The IKE SA that the request closed, if it did.
         closed: Option<u32>,
     },
-    /// The peer retransmitted a request that took effect before; these are the octets of the first
+    /// The peer retransmitted a request that was processed before; these are the octets of the first
     /// response.
     Repeat {
         octets: Items<u8>,
@@ -33,7 +33,7 @@ pub enum Output<'a> {
     /// A response was matched to its request, which waits no more.
     Counted {
         ike: u32,
-        /// The child that it made, if one.
+        /// The Child SA that it made, if one.
         child: Option<u32>,
         /// The IKE SA that it closed, if it did.
         closed: Option<u32>,
@@ -82,7 +82,7 @@ pub enum Output<'a> {
     },
 }
 
-/// An output, and beside it what the step sent under the keys of IKE associations, what it made, and what the
+/// An output, and beside it what the step sent under the keys of IKE SAs, what it made, and what the
 /// peer declined.
 #[derive(Debug, Drop, PartialEq, Eq)]
 pub struct Traced<'a> {

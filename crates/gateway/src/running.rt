@@ -27,18 +27,18 @@ use suite::{Agreement, Proof, Sealer};
 ///
 /// Over every list of inputs:
 ///
-/// - Under an IKE SA each Message ID takes effect at most once, exactly where such a request is delivered
+/// - Under an IKE SA each Message ID is processed at most once, exactly where such a request is delivered
 ///   new.
 /// - Each retransmission that is still remembered gets the octets of the first response.
 /// - What is due (a retransmission, an IKE SA that is closed or removed) comes with the first `Tick` that
 ///   reaches it, and with no other input.
-/// - Each ESP packet that was sent to a child is accepted at most once. Where no ICV is forged, that is at
+/// - Each ESP packet that was sent to a Child SA is accepted at most once. Where no ICV is forged, that is at
 ///   its first arrival while the child's pair is installed. Its number must be rightly recovered, inside or
 ///   above the window, and not taken before the list. The output is the verdict on its payload.
 /// - No other ESP packet delivers anything.
 /// - Each IKE SA that is established after an input was so before the list, or its peer proved itself by
 ///   one of these inputs, under the same keys.
-/// - An input that is refused for want of memory counts as lost.
+/// - An input that is refused on allocation failure counts as lost.
 pub fn run<'a, C: Sealer + Agreement + Proof>(
     alloc: Global,
     gateway: &mut Gateway<C>,

@@ -151,7 +151,7 @@ fn step_ike<'a, C: Sealer + Agreement + Proof>(
     traced
 }
 
-// Forgets what is done with flows where a child was made, since its pair may carry them from now on.
+// Forgets what is done with flows where a Child SA was made, since its pair may carry them from now on.
 fn forget_with(flows: &mut FlowMemory, child: Option<MadeChild>)
     ensures { MatchOption child (flows.new ≡ flows.old) (λ _. HoldsNone flows.new) }
 {

@@ -26,7 +26,7 @@ use std::marker::Model;
 pub use stored::{Child, Datagram, End, Event, Keyed, Protection, Simplex};
 use suite::{Agreement, Fresh, Proof, Sealer};
 
-/// Two gateways, with every datagram that they sent, in order, every key record and every child that they
+/// Two gateways, with every datagram that they sent, in order, every key record and every Child SA that they
 /// made. Usually each is configured as the other's peer, but nothing here asks for that. An event says what
 /// arrives at an end, wherever it comes from.
 ///
@@ -109,7 +109,7 @@ impl<C> World<C> {
         self.log.keyed.as_slice()
     }
 
-    /// All children that an end made, in order, also those that it holds no more.
+    /// All Child SAs that an end made, in order, also those that it holds no more.
     pub fn children(&self) -> &[Child]
         ensures { result.now ≡ self.now.stored.children }
     {

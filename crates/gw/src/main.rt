@@ -2,7 +2,7 @@
 //! source.
 //!
 //! `gw play FILE` plays a script. Its first line names its kind; each further line is a directive, and what
-//! came of it is printed. A script of kind `one` has the two ends of one ESP association (RFC 4303): its
+//! came of it is printed. A script of kind `one` has the two ends of one ESP SA (RFC 4303): its
 //! sender seals packets, its receiver opens them.
 //!
 //! ```text
@@ -18,7 +18,7 @@
 //! E16
 //! ```
 //!
-//! A script of kind `two` has two gateways, A and B: they make IKE associations (RFC 7296) and children of
+//! A script of kind `two` has two gateways, A and B: they make IKE SAs (RFC 7296) and children of
 //! ESP, and packets go between them. Each datagram that one sends reaches the other only where a line of
 //! the script says so, whole or damaged.
 //!

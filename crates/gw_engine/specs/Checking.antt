@@ -12,7 +12,7 @@ abbrev pub report_line : ℕ → ℕ → ℕ → List ℕ
 report_line passed failed unread = codes "passed " ++ decimal passed ++ codes " failed " ++ decimal failed
     ++ codes " unread " ++ decimal unread ++ codes "\n"
 
--- the line goes out, or a beginning of it where the output can't be written, or nothing for want of memory
+-- the line goes out, or a beginning of it where the output can't be written, or nothing on allocation failure
 abbrev pub ReportsBy : List ℕ → Result Unit Stop → Option (List ℕ) → Option (List ℕ) → Type 0
 ReportsBy line (Ok _) old new = Appends old new line
 ReportsBy line (Err stop.Output) old new = AppendsBeginning old new line

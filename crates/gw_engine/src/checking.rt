@@ -10,10 +10,10 @@ use std::io::Write;
 use vectors::{ENTRIES, Report, check_all};
 
 /// Computes the exact values of [`check_all`], compares each with what it should be, prints how many
-/// passed, failed and could not be looked at for want of memory, and answers the exit status.
+/// passed, failed and could not be looked at because of an allocation failure, and answers the exit status.
 ///
 /// The status is 0 where all passed and all of the output is written, and else 1. Where a write fails it is
-/// a beginning of the line that was written, and nothing after it; for want of memory `no memory` is
+/// a beginning of the line that was written, and nothing after it; on allocation failure `no memory` is
 /// printed in its place.
 pub fn check<W: Write>(alloc: Global, writer: &mut W) -> u8
     ensures checks { Checks ENTRIES result (W.contents writer.old) (W.contents writer.new) }

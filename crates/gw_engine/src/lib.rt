@@ -2,7 +2,7 @@
 //! crate of its own, so that it is checked without the program's command line.
 //!
 //! [`play`] plays a script (`script`). Its first line names its kind; each further line is a directive, and
-//! what came of it is printed. A script of kind `one` has the two ends of one ESP association (RFC 4303):
+//! what came of it is printed. A script of kind `one` has the two ends of one ESP SA (RFC 4303):
 //! its sender seals packets, its receiver opens them.
 //!
 //! ```text
@@ -14,7 +14,7 @@
 //! ```
 //!
 //! A script of kind `two` has two gateways, A and B, and what goes between them. Its opening lines say what
-//! each protects, and how many requests it takes at once; then one line begins an IKE association (RFC
+//! each protects, and how many requests it takes at once; then one line begins an IKE SA (RFC
 //! 7296), or brings a datagram or a packet to an end.
 //!
 //! ```text

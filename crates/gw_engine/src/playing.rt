@@ -14,8 +14,8 @@ use std::io::{Read, Write};
 ///
 /// The script is read whole before anything is played: where a read fails or there are more than 1,048,576
 /// octets, `refused file` is printed. A line that is no directive, or can't be followed, prints `line N
-/// refused`, want of memory `no memory`, and nothing is played after either. The status is then 1, as it is
-/// where a write fails, after which nothing more is printed; else it is 0.
+/// refused`, an allocation failure `no memory`, and nothing is played after either. The status is then 1,
+/// as it is where a write fails, after which nothing more is printed; else it is 0.
 pub fn play<R: Read, W: Write>(alloc: Global, reader: &mut R, writer: &mut W) -> u8
     ensures { result ≤ 1 }
 {

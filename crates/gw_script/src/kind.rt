@@ -3,7 +3,7 @@
 /// What a script is about. Its first line says so in one word.
 #[derive(Clone, Copy, Debug, PartialEq, Eq)]
 pub enum Kind {
-    /// `one`: the two ends of one association.
+    /// `one`: the two ends of one SA.
     One,
     /// `two`: two gateways.
     Two,

@@ -17,7 +17,7 @@ pub fn first_line(script: &[u8]) -> &[u8] {
 }
 
 /// The directives behind the first line, in their order: each other line but empty ones and comments. An
-/// error is for want of memory alone.
+/// error is an allocation failure alone.
 pub fn directives(alloc: Global, script: &[u8]) -> Result<Vec<Line<'_>>, AllocError> {
     let mut lines = Vec::new(alloc);
     for (index, text) in script.split(is_line_end).enumerate().skip(1) {

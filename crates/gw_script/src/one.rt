@@ -1,4 +1,4 @@
-//! Scripts of kind `one`: the two ends of one association.
+//! Scripts of kind `one`: the two ends of one SA.
 mod directive;
 mod ends;
 mod report;

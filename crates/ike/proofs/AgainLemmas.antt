@@ -1,4 +1,4 @@
--- What goes out again with a moment does so under keys that its association holds.
+-- What goes out again with a tick does so under keys that its IKE SA holds.
 use Rattle.std.proofs.Common.{◌≡◌, inl, inr, ℕ, true, List, length, Option, Some, None, Contains, ap, refl, subst, sym, ◌∙◌}
 use Rattle.std.proofs.lemmas.List.Elements.{All-contains}
 use Rattle.std.proofs.lemmas.Option.{slice_get_read}

@@ -48,7 +48,7 @@ pub record AskLaws : Type 0 where
   pub before : (meaning : Meaning) (setup : Setup) (old : Association) (table : Database) (octets : Octets) (m : Message) (e : Effect) (new : Association) (new_table : Database) (child : AskedChildView)
       → first_asked new.phase ≡ Some child → TakesMessage meaning setup old table octets m e new new_table → first_asked old.phase ≡ Some child
 
--- the first child is asked for only so
+-- the first Child SA is asked for only so
 abbrev Allows : Bool → Association → Type 0
 Allows extended a = (child : AskedChildView) → first_asked a.phase ≡ Some child → child.extended ≡ true → extended ≡ true
 
@@ -130,7 +130,7 @@ step_first laws meaning entries (steps.Tick moment) old table stepped new new_ta
       | inr closes ↦ inr (keys_in before.was.phase, ap (λ (x : Association). x.phase) closes.content)
     ]) first)
 
--- ---- further children
+-- ---- additional Child SAs
 
 same_request : (one other : Request) → Some one ≡ Some other → one ≡ other
 same_request one other is = cc

@@ -1,4 +1,4 @@
--- What an order that asks the peer something leaves of the association that asks.
+-- What a command that asks the peer something leaves of the IKE SA that asks.
 use Rattle.std.proofs.Common.{◌≡◌, inl, inr, ℕ, zero, suc, ◌+◌, ◌<◌, ◌≤◌, ◌∷◌, [], Bool, true, false, cond, not, length, List, Option, Some, None, arith, ap, refl, subst, sym, ◌∙◌}
 use Rattle.std.specs.List.{find, list_any, position, position_or_len, slice_get}
 use Rattle.std.specs.Prelude.{◌==◌, ◌||◌, slice_index_or, IfErr, IfOk, IsErrAnd, Result, Ok, Err}
@@ -82,7 +82,7 @@ module _ (body_of : Keys → Octets → Octets → Octets → Octets) (setup : S
       (ap (has_serial ike) (sym (same_one (slice_index_or old.associations is.place is.association) is.association first_one)) ∙ (position-Some (has_serial ike) old.associations is.place is.association is.first).1)
       (position-Some (has_serial ike) old.associations is.place is.association is.first).2
 
-  -- the association with a serial was held under it before, in the same phase
+  -- the IKE SA with a serial was held under it before, in the same phase
   pub record WasInPhase (serial : ℕ) (b : Association) : Type 0 where
     pub was : Association
     pub stood : association_of serial old.associations ≡ Some was
@@ -110,13 +110,13 @@ module _ (body_of : Keys → Octets → Octets → Octets → Octets) (setup : S
       (ap (λ (h : Held). association_of is.association.serial h.associations) is.content
       ∙ replaced_stands old table is.place is.association is.changed sound is.there changed_itself.serial)
 
-  -- the keys of each association are those that it had
+  -- the keys of each IKE SA are those that it had
   pub probed_keys : (table : Database) (serial : ℕ) (b was : Association) → AreSound old table → association_of serial new.associations ≡ Some b → association_of serial old.associations ≡ Some was → keys_in b.phase ≡ keys_in was.phase
   probed_keys table serial b was sound stands stood =
       let before = probed_stood table serial b sound stands in
       ap keys_in (before.phase_is ∙ ap (λ (x : Association). x.phase) (same_one before.was was (sym before.stood ∙ stood)))
 
--- ---- which association an order is for
+-- ---- which IKE SA a command is for
 
 pub found_first : (ike : ℕ) (xs : List Association) (place : ℕ) (a : Association) → position (has_serial ike) xs ≡ Some place → slice_get xs place ≡ Some a → association_of ike xs ≡ Some a
 found_first ike xs place a first there =

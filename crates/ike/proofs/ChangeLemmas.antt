@@ -1,4 +1,4 @@
--- A step changes one association at most, and pairs of that one alone.
+-- A step changes one IKE SA at most, and pairs of that one alone.
 use Rattle.std.proofs.Common.{◌⊎◌, ◌≡◌, inl, inr, ℕ, Bool, true, false, ◌+◌, List, Some, ap, refl, subst, sym, ◌∙◌, arith}
 use Rattle.base.specs.Octets.{Octets}
 use Rattle.wire.specs.declared.message.Message.{Message}
@@ -37,7 +37,7 @@ all_left table ike =
 left_as : (table new_table : Database) (ike : ℕ) → new_table ≡ table → LeavesPairs table ike new_table
 left_as table new_table ike same = subst (λ (d : Database). LeavesPairs table ike d) (sym same) (all_left table ike)
 
--- what an order leaves
+-- what a command leaves
 order_leaves : (o : Order) (table : Database) (ike : ℕ) (new : Database) → IsOwnFor o table.pairs ike → MarksFor o table new → LeavesPairs table ike new ⊎ MarksOne table ike new
 order_leaves order.Probe table ike new own is = inl (left_as table new ike is)
 order_leaves (order.DeleteChild child spi) table ike new own is = inr (record { serial = child; own = own; marked = is })

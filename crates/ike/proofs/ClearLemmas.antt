@@ -49,7 +49,7 @@ rested_clear old new (output.Ticked ticked) goes same = absurd goes
 rested_clear old new output.Done goes same = λ sent none out. absurd (no_octets sent out)
 rested_clear old new (output.Dropped f) goes same = λ sent none out. absurd (no_octets sent out)
 
--- the keys under a serial, by the association that stands there
+-- the keys under a serial, by the IKE SA that stands there
 keys_there : (new : Held) (serial : ℕ) (a : Association) → association_of serial new.associations ≡ Some a → keys_in a.phase ≡ None → keys_of_serial serial new.associations ≡ None
 keys_there new serial a there none = ap (λ (o : Option Association). option_and_then (λ (x : Association). keys_in x.phase) o) there ∙ none
 

@@ -1,4 +1,4 @@
--- What is asked of a list of associations goes by what is held of each.
+-- What is asked of a list of IKE SAs goes by what is held of each.
 use Rattle.std.proofs.Common.{◌≡◌, ◌||◌, ℕ, ◌+◌, ◌++◌, ◌∷◌, [], Bool, cond, List, length, Option, Some, None, ap, refl, sym, ◌∙◌}
 use Rattle.std.specs.List.{count_by, list_any, position, position_or_len, slice_get}
 use Rattle.std.specs.Prelude.{map, nat_lt, not, option_map, slice_set}
@@ -45,7 +45,7 @@ place_kept : {A : Type 0} (p : A → Bool) (g : A → A) → IsKept p g → (xs 
 place_kept p g kept xs =
     ap (λ n. first_within n (length (map g xs))) (front_kept p g kept xs) ∙ ap (first_within (position_or_len p xs)) (length-map xs g)
 
--- ---- lists of associations with one content
+-- ---- lists of IKE SAs with one content
 
 module _ (xs ys : List Association) (same : map association_content xs ≡ map association_content ys) where
   pub same_any : (p : Association → Bool) → IsKept p association_content → list_any p xs ≡ list_any p ys

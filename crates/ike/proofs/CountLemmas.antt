@@ -1,4 +1,4 @@
--- How many associations are half open, and which SPIs are in use.
+-- How many IKE SAs are half open, and which SPIs are in use.
 use Rattle.std.proofs.Common.{◌≡◌, ◌≢◌, ◌||◌, ℕ, zero, suc, ◌+◌, ◌≤◌, ◌++◌, ◌∷◌, [], Bool, true, false, cond, List, Some, ap, refl, sym, ◌∙◌, arith}
 use Rattle.std.specs.List.{list_any, slice_get}
 use Rattle.std.specs.Prelude.{◌==◌, slice_set}
@@ -10,7 +10,7 @@ use Rattle.association.specs.declared.phase.Phase.TheVariants as phase
 use Rattle.initial.specs.Answering.{IsHalfOpen}
 use Rattle.ike.specs.Machines.{half_open_count, has_own_spi, is_bad_spi, is_half_open, is_half_open_phase, own_spi}
 
--- ---- half-open associations
+-- ---- half-open IKE SAs
 
 abbrev pub weight : Association → ℕ
 weight a = cond (is_half_open a) 1 0

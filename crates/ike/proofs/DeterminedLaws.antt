@@ -44,7 +44,7 @@ OneJudgement =
     (cipher : Cipher) (group : ℕ) (secrets : CookieSecrets) (sender : Sender) (half_open held : ℕ) (payloads : List Payload) (one other : JudgementView)
     → IsJudgement cipher group secrets sender half_open held payloads one → IsJudgement cipher group secrets sender half_open held payloads other → one ≡ other
 
--- of associations as they begin, and of what messages do to them
+-- of IKE SAs as they begin, and of what messages do to them
 pub record AssociationLaws : Type 0 where
   pub begun : (cipher : Cipher) (group : ℕ) (public_value : Octets → Octets) (fresh : Fresh) (moment serial : ℕ) (child : AskedChildView) (a b : Beginning)
       → Begins cipher group public_value fresh moment a → Begins cipher group public_value fresh moment b
@@ -61,7 +61,7 @@ pub record TableLaws : Type 0 where
   pub prepared : (old new : Database) → IsAsBefore old new → table_content new ≡ table_content old
   pub reserved : (old other a b : Database) (spi mark : ℕ) → table_content old ≡ table_content other → Reserves old spi a → Reserves other mark b → (spi ≡ mark) × (table_content a ≡ table_content b)
 
--- of orders that ask the peer something, and of moments
+-- of commands that ask the peer something, and of ticks
 pub record OrderLaws : Type 0 where
   pub probe : (body_of : Keys → Octets → Octets → Octets → Octets) (setup : Setup) (order : Order) (old other a b : Association) (one two : Octets)
       → TellsLengths body_of setup.fresh.seal → HoldsWholeKeys old.phase → association_content old ≡ association_content other

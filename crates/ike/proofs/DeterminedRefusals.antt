@@ -1,4 +1,4 @@
--- What is done is not refused but for want of memory, and a refusal has one reason.
+-- What is done is not refused but on allocation failure, and a refusal has one reason.
 use Rattle.std.proofs.Common.{◌≡◌, ◌⊎◌, inl, inr, ◌<◌, ◌+◌, ◌^◌, ℕ, Bool, true, false, List, length, Option, Some, None, refl, sym, ap, subst, ◌∙◌, arith, max}
 use Rattle.std.specs.List.{position}
 use Rattle.std.specs.Prelude.{◌==◌, nat_le, if◌then◌else◌}
@@ -43,7 +43,7 @@ can_or_cannot old spi fault.NumbersSpent can cannot = absurd (omega (arith, can.
 can_or_cannot old spi fault.BadFresh can cannot = absurd (cc (can.usable, cannot.1))
 can_or_cannot old spi (fault.Memory f) can cannot = refl
 
--- why no association can be made: no serial is left, or one is and the SPI can't be used
+-- why no IKE SA can be made: no serial is left, or one is and the SPI can't be used
 abbrev Hinders : Held → ℕ → IkeFault → Type 0
 Hinders old spi reason = ((reason ≡ fault.NumbersSpent) × (old.next ≡ SERIAL_END)) ⊎ ((reason ≡ fault.BadFresh) × (old.next < SERIAL_END))
 
@@ -66,7 +66,7 @@ one_hindrance old spi one two (inl is) (inr also) = absurd (omega (arith, is.1, 
 one_hindrance old spi one two (inr is) (inl also) = absurd (omega (arith, is.1, also.1))
 one_hindrance old spi one two (inr is) (inr also) = is.0 ∙ sym also.0
 
--- for want of memory, or as an offer
+-- on allocation failure, or as an offer
 pub refused_is : (meaning : Meaning) (setup : Setup) (cookies : CookieSecrets) (from octets : Octets) (old : Held) (table : Database) (reason : IkeFault) → RefusesDatagram meaning setup cookies from octets old table reason
     → (is_want_of_memory reason ≡ true) ⊎ RefusesInitial meaning setup cookies from octets old reason
 refused_is meaning setup cookies from octets old table (fault.Unread f) is = inr is
@@ -106,7 +106,7 @@ module _ (laws : Laws) (meaning : Meaning) (setup : Setup) (cookies : CookieSecr
   cannot_here spi fault.BadFresh cannot = (subst (λ (n : ℕ). n < SERIAL_END) (sym (same_next old other same)) cannot.0, same_bad old.associations other.associations (same_list old other same) spi ∙ cannot.1)
   cannot_here spi (fault.Memory f) cannot = cannot
 
-  -- an offer that is accepted is taken where an association can be made of it, and refused where it can't
+  -- an offer that is accepted is taken where an IKE SA can be made of it, and refused where it can't
   new_or_refused : (m : Message) (stepped : Stepped) (new : Held) (reason : IkeFault) (offer : OfferView) → TakesNew meaning setup cookies from octets m old stepped new → IsJudged meaning cookies other from m (Accepted offer)
       → CannotMake other setup.fresh.spi reason → is_want_of_memory reason ≡ true
   new_or_refused m stepped new reason offer is judged why =

@@ -1,4 +1,4 @@
--- A step does one thing: what comes of it, and what is held of associations and in the table then, but for
+-- A step does one thing: what comes of it, and what is held of IKE SAs and in the table then, but for
 -- room.
 use Rattle.std.proofs.Common.{◌≡◌, inl, inr, ℕ, Bool, true, false, List, length, Option, Some, None, Result, Ok, Err, sym, ap, subst, ◌∙◌, max}
 use Rattle.std.specs.List.{position, slice_get}
@@ -175,7 +175,7 @@ module _ (laws : Laws) (meaning : Meaning) (setup : Setup) (old other : Held) (s
       (subst (λ (o : Option ℕ). TakesRequestAt o meaning setup cookies from octets m other two b) answered also)
   one_sound false cookies from octets m one two a b is also = one_passing (fault.Message WrongPhase) one two a b is also
 
-  -- ---- messages for an association
+  -- ---- messages for an IKE SA
 
   module _ (table another : Database) (alike : table_content table ≡ table_content another) (tells : TellsLengths meaning.body_of setup.fresh.seal) (whole : HoldWholeKeys old) where
     one_message : (place : ℕ) (octets : Octets) (m : Message) (one two : Stepped) (a b : Held) (a_table b_table : Database)
@@ -263,12 +263,12 @@ module _ (laws : Laws) (meaning : Meaning) (setup : Setup) (old other : Held) (s
         table = reserved.1;
       }
 
--- ---- orders to ask whether the peer is there, and moments
+-- ---- commands to ask whether the peer is there, and ticks
 
 same_place_of : (o : Option ℕ) (one two : ℕ) → o ≡ Some one → o ≡ Some two → one ≡ two
 same_place_of o one two is also = cc
 
--- the association that asks is one, by what is held
+-- the IKE SA that asks is one, by what is held
 record SameAsker (is_place also_place : ℕ) (a b : Association) : Type 0 where
   place : is_place ≡ also_place
   association : association_content a ≡ association_content b

@@ -1,4 +1,4 @@
--- The child that a step makes has few selectors.
+-- The Child SA that a step makes has few selectors.
 use Rattle.std.proofs.Common.{◌≡◌, inl, inr, List, Some, None, ap, subst, sym, ◌∙◌}
 use Rattle.base.specs.Octets.{Octets}
 use Rattle.wire.specs.declared.message.Message.{Message}
@@ -25,7 +25,7 @@ use Rattle.ike.specs.declared.output.IkeOutput.{IkeOutput}
 use Rattle.ike.specs.declared.output.MadeChild.{MadeChild}
 use Rattle.ike.specs.declared.output.Stepped.{Stepped}
 
--- what is known of children
+-- what is known of Child SAs
 pub record FirstLaw : Type 0 where
   pub made : (meaning : Meaning) (entries : List Entry) (from octets : Octets) (fresh : Fresh) (old : Machine) (table : Database) (stepped : Stepped) (made : MadeChild) (new : Machine) (new_table : Database)
       → IsSoundTable table → IsSoundMachine old table → Steps meaning entries (steps.Message from octets fresh) old table stepped new new_table

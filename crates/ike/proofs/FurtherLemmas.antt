@@ -1,4 +1,4 @@
--- Who waits for the answer to a request for a further child waited before, or is ordered to ask now.
+-- Who waits for the answer to a request for an additional Child SA waited before, or is told to ask now.
 use Rattle.std.proofs.Common.{◌≡◌, ◌⊎◌, inl, inr, ℕ, Bool, true, false, List, Some, None, arith, max, ap, refl, subst, sym, ◌∙◌}
 use Rattle.std.specs.FinMap as map
 use Rattle.std.specs.Ordering.{nat_cmp}
@@ -47,7 +47,7 @@ use Rattle.ike.proofs.SerialLemmas.{same_one}
 use Rattle.ike.proofs.TickLemmas.{ticked_stood, TicksHold}
 use Rattle.ike.proofs.WayLemmas.{datagram_came, joined, stood, taken, AdmitsOne, Came, StartsOne, Takes}
 
--- what is known of one association
+-- what is known of one IKE SA
 pub record FurtherLaws : Type 0 where
   pub itself : (meaning : Meaning) (setup : Setup) (old : Association) (table : Database) (octets : Octets) (m : Message) (e : Effect) (new : Association) (new_table : Database)
       → TakesMessage meaning setup old table octets m e new new_table → KeepsIdentity old new
@@ -63,7 +63,7 @@ pub record FurtherLaws : Type 0 where
   pub begun_soundly : (cipher : Cipher) (group : ℕ) (public_value : Octets → Octets) (fresh : Fresh) (moment serial : ℕ) (beginning : Beginning) (child : AskedChildView)
       → Begins cipher group public_value fresh moment beginning → IsSoundlyHeld (begun serial beginning child)
 
--- ---- an order for a further child sends its request
+-- ---- a command for an additional Child SA sends its request
 
 pub asks_now : FurtherLaws → (meaning : Meaning) (setup : Setup) (ike place : ℕ) (old : Held) (table : Database) (stepped : Stepped) (new : Held) (new_table : Database)
     → AreSound old table → FurthersBy meaning setup ike place old table stepped new new_table → AsksForFurtherNow meaning.body_of setup ike stepped new
@@ -100,7 +100,7 @@ none_first number request is = let none : map.get {R = nat_cmp} (map.empty {X = 
 yes_no : (b : Bool) → b ≡ true → b ≡ false → ⊥
 yes_no b one other = cc
 
--- the request as it waits at the association that stands there
+-- the request as it waits at the IKE SA that stands there
 request_of : (held : Held) (ike number : ℕ) (request : Request) (a b : Association) → association_of ike held.associations ≡ Some a → map.get a.outgoing.outstanding number ≡ Some request
     → association_of ike held.associations ≡ Some b → map.get b.outgoing.outstanding number ≡ Some request
 request_of held ike number request a b stands there after = subst (λ (x : Association). map.get x.outgoing.outstanding number ≡ Some request) (same_one a b (sym stands ∙ after)) there
@@ -169,7 +169,7 @@ ordered_further laws meaning setup (orders.DeleteChild child) old table stepped 
 ordered_further laws meaning setup (orders.DeleteIke asker) old table stepped new new_table ike number a request sound is stands there asks =
     that_further laws meaning setup asker asked.DeleteAssociation old table stepped new new_table ike number a request sound is stands there asks
 
--- the association that is ordered to ask waits for what it asks now, too
+-- the IKE SA that is told to ask waits for what it asks now, too
 now_further : (laws : FurtherLaws) (meaning : Meaning) (setup : Setup) (asker place : ℕ) (old : Held) (table : Database) (stepped : Stepped) (new : Held) (new_table : Database) (ike number : ℕ) (a : Association) (request : Request)
     → AreSound old table → FurthersBy meaning setup asker place old table stepped new new_table → association_of ike new.associations ≡ Some a → map.get a.outgoing.outstanding number ≡ Some request
     → FurtherWaited ike number request old ⊎ ((ike ≡ asker) × (stepped ≡ asking_step ike number request.octets) × ((before : Request) → WaitsAt old ike number before → ⊥))

@@ -1,4 +1,4 @@
--- The request of IKE_SA_INIT that comes again, and which one made an association half open.
+-- The request of IKE_SA_INIT that comes again, and which one made an IKE SA half open.
 use Rattle.std.proofs.Common.{◌≡◌, ◌≤◌, inl, inr, ℕ, true, max, List, Option, Some, None, ap, refl, subst, sym, ◌∙◌, arith}
 use Rattle.std.specs.Cmp.Lexicographic.{same_text}
 use Rattle.std.specs.List.{position, slice_get}
@@ -44,7 +44,7 @@ same_reply one other is = cc
 opened_same : (one other : HalfOpen) → phase.HalfOpen one ≡ phase.HalfOpen other → one ≡ other
 opened_same one other is = cc
 
--- two half-open associations of one request are one
+-- two half-open IKE SAs of one request are one
 one_opened : (held : Held) (table : Database) (k place : ℕ) (c a : Association) (one opened : HalfOpen) → AreSound held table → At held k c → At held place a
     → c.phase ≡ phase.HalfOpen one → a.phase ≡ phase.HalfOpen opened → one.request ≡ opened.request → c ≡ a
 one_opened held table k place c a one opened sound there here was is same = elim (eqb_tells k place) [
@@ -102,7 +102,7 @@ step_repeats_first laws quiet meaning entries (steps.Tick moment) old table step
 
 -- ---- which request made it half open
 
--- an association came to be held
+-- an IKE SA came to be held
 record Came (serial : ℕ) (old new : Held) (b : Association) : Type 0 where
   none : association_of serial old.associations ≡ None
   there : association_of serial new.associations ≡ Some b

@@ -1,4 +1,5 @@
--- What an order leaves of the table: a child that is to be deleted is marked, and nothing else is changed.
+-- What a command leaves of the table: a Child SA to be deleted is in state Deleting, and nothing else is
+-- changed.
 use Rattle.std.proofs.Common.{◌≡◌, ◌⊎◌, inl, inr, ℕ, cond, Some, ap, subst, sym, ◌∙◌}
 use Rattle.std.specs.Cmp.{nat_cmp_total, unsigned_tied}
 use Rattle.std.specs.FinMap as map
@@ -39,7 +40,7 @@ one_marked table child serial was pair new there content is =
       | inr (none, other) ↦ inl (sym (map.get-insert nat_cmp_total table.pairs child v serial ∙ ap (λ b. cond b (Some v) (map.get table.pairs serial)) (unsigned_tied serial child ∙ none)) ∙ now)
     ]
 
--- each pair was there, or is marked now
+-- each SA pair was there, or is being deleted now
 pub marked_pairs : (o : Order) (table new : Database) (serial : ℕ) (pair : Pair) → MarksFor o table new → pair_at new.pairs serial ≡ Some pair → (pair_at table.pairs serial ≡ Some pair) ⊎ BecameDeleting table serial pair
 marked_pairs order.Probe table new serial pair is there = inl (subst (λ (d : Database). pair_at d.pairs serial ≡ Some pair) is there)
 marked_pairs (order.DeleteChild child spi) table new serial pair is there = one_marked table child serial is.pair pair new is.changed.there is.changed.content there

@@ -1,4 +1,4 @@
--- The two ends' pairs of one child.
+-- The two ends' pairs of one Child SA.
 use Rattle.std.proofs.Common.{◌≡◌, ℕ, ◌∷◌, [], List, Some, refl, subst, sym}
 use Rattle.wire.specs.declared.payload.Payload.{Payload}
 use Rattle.wire.specs.declared.proposal.Proposal.{Proposal}
@@ -17,7 +17,7 @@ use Rattle.further.specs.Payloads.{further_payloads}
 use Rattle.effects.specs.Children.{First, Further, IsAnsweredChild, IsAskedChild, IsAskedFurther}
 use Rattle.setup.specs.Configs.{Setup}
 
--- what is known of the two ends' pairs of a child
+-- what is known of the two ends' pairs of a Child SA
 pub record MirrorFacts : Type 0 where
   pub mirror : (keys : List (List ℕ)) (request reply : List Payload) (proposal : Proposal) (a b : Pair)
       → only_sa request ≡ Some (proposal ∷ []) → IsChild Initiator keys request reply a → IsChild Responder keys request reply b → Mirrors a b

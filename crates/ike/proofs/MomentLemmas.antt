@@ -1,4 +1,4 @@
--- What is due comes with the first moment that reaches it.
+-- What is due comes with the first tick that reaches it.
 use Rattle.std.proofs.Common.{◌≡◌, inl, inr, ℕ, zero, suc, ◌++◌, ◌∷◌, [], Bool, true, false, List, Option, Some, All, max, ap, refl, subst, sym, ◌∙◌, None}
 use Rattle.std.proofs.lemmas.List.Elements.{All-from_recursion, recursion_from_All}
 use Rattle.std.specs.List.{flat_map, slice_get, AllByRecursion, AllZip}
@@ -145,7 +145,7 @@ step_timely laws meaning entries (steps.Tick moment) old table stepped new new_t
     subst (λ (n : ℕ). All (IsInTime n) new.held.associations) (sym (ap (λ (m : Machine). m.moment) is.content))
     (laws.ticks old.moment now old.held.associations table is.takes.ticked new.held.associations new_table (le-max_left old.moment moment) (all_begun old timely) is.takes.ticks)
 
--- ---- what comes with a moment, and with nothing else
+-- ---- what comes with a tick, and with nothing else
 
 pub step_comes : TimelyLaws → (meaning : Meaning) (entries : List Entry) (moment : ℕ) (old : Machine) (table : Database) (stepped : Stepped) (new : Machine) (new_table : Database)
     → Steps meaning entries (steps.Tick moment) old table stepped new new_table → ComesTo (max old.moment moment) old table stepped new new_table

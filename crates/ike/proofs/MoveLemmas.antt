@@ -1,4 +1,4 @@
--- A step makes the moves that are stated, at each association.
+-- A step makes the moves that are stated, at each IKE SA.
 use Rattle.std.proofs.Common.{◌≡◌, ◌≢◌, ◌⊎◌, inl, inr, ℕ, suc, ◌≤◌, ◌∷◌, ◌++◌, [], Bool, true, false, cond, not, List, length, Option, Some, None, Contains, max, arith, ap, refl, subst, sym, ◌∙◌}
 use Rattle.std.proofs.lemmas.Bool.Decides.{eqb_tells}
 use Rattle.std.specs.List.{slice_get, AllByRecursion, AllZip}
@@ -54,7 +54,7 @@ use Rattle.ike.proofs.TellingLemmas.{asking_says, asking_silent, closes_now, clo
 use Rattle.ike.proofs.TickLemmas.{found_at}
 use Rattle.ike.proofs.WayLemmas.{admitted, asked_one, datagram_way, further_one, probed, rested, started, took, AsksOne, StartsOne, Way}
 
--- what is known of moves at one association
+-- what is known of moves at one IKE SA
 pub record MoveLaws : Type 0 where
   pub itself : (meaning : Meaning) (setup : Setup) (old : Association) (table : Database) (octets : Octets) (m : Message) (e : Effect) (new : Association) (new_table : Database)
       → TakesMessage meaning setup old table octets m e new new_table → KeepsIdentity old new
@@ -113,7 +113,7 @@ silent_at : (meaning : Meaning) (input : InputView) (old : Held) (stepped : Step
     → MovesAt meaning input old stepped new serial
 silent_at meaning input old stepped new serial same silent = rests_at meaning input old stepped new serial same (silent_tells (association_of serial old.associations) stepped serial [] silent)
 
--- where one association is changed: it is this one, or this one stays
+-- where one IKE SA is changed: it is this one, or this one stays
 pub at_changed : (old : Held) (table : Database) (place : ℕ) (a b : Association) (new : Held) (serial : ℕ) → AreSound old table → At old place a → b.serial ≡ a.serial
     → new ≡ record old { associations = slice_set old.associations place b }
     → ((serial ≡ a.serial) × (association_of serial old.associations ≡ Some a) × (association_of serial new.associations ≡ Some b))
@@ -341,7 +341,7 @@ way_moves laws meaning setup from octets old table stepped new new_table serial 
 way_moves laws meaning setup from octets old table stepped new new_table serial sound config (probed is) =
     probed_moves laws (steps.Message from octets setup.fresh) meaning setup old table stepped new new_table serial (λ opens. opens) sound is
 
--- ---- a moment
+-- ---- a tick
 
 -- one that is held on, by the list of those that are
 record Zipped (now serial : ℕ) (closed : List ℕ) (a : Association) (ys : List Association) : Type 0 where
@@ -487,7 +487,7 @@ on_moves laws input stepped ticked serial now a b held named said closes sends i
   | inr closed ↦ closed_moves laws input stepped ticked serial now a b (keys_in a.phase) held refl said (subst (λ n. Contains ticked.closed n) named closed.1) sends closed.0
 ]
 
--- a moment at one association
+-- a tick at one IKE SA
 record TickAt (input : InputView) (old : Held) (table : Database) (stepped : Stepped) (ticked : Ticked) (now : ℕ) (new : Held) (new_table : Database) : Type 0 where
   sound : AreSound old table
   is_moment : is_tick input ≡ true

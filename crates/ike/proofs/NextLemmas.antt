@@ -1,4 +1,4 @@
--- Before the next moment at which something is due nothing comes.
+-- Before the next time at which something is due nothing comes.
 use Rattle.std.proofs.Common.{◌≡◌, ◌<◌, ◌^◌, [], ℕ, List, Option, All, IfSome, length, max, ap, ◌∙◌, arith, inl, inr, subst, sym}
 use Rattle.std.proofs.lemmas.Bool.Decides.{leb_tells}
 use Rattle.std.proofs.lemmas.List.Elements.{All-weaker}
@@ -23,12 +23,12 @@ use Rattle.ike.specs.declared.output.IkeOutput.{IkeOutput}
 use Rattle.ike.specs.declared.output.IkeOutput.TheVariants as output
 use Rattle.ike.specs.declared.output.Stepped.{Stepped}
 
--- what is known of a moment at which nothing is due
+-- what is known of a time at which nothing is due
 abbrev pub NothingBefore : Type 0
 NothingBefore = (now : ℕ) (old new : List Association) (table new_table : Database) (ticked : Ticked) → All (HasNothingDue now) old → Ticks now old table ticked new new_table
     → (ticked ≡ record { requests = []; closed = [] }) × (new ≡ old) × (new_table ≡ table)
 
--- what is known of a moment at which something is
+-- what is known of a time at which something is
 abbrev pub LiesAhead : Type 0
 LiesAhead = (now later : ℕ) (associations : List Association) → All (HasNothingDue now) associations → SomethingIsDue later associations → now < later
 
@@ -53,7 +53,7 @@ untouched law next moment old table stepped new new_table timely quiet fits befo
 pub ahead_of : LiesAhead → (machine : Machine) (next : Option ℕ) → IfSome next (λ moment. SomethingIsDue moment machine.held.associations) → IsTimely machine → IfSome next (λ moment. machine.moment < moment)
 ahead_of law machine next due timely = IfSome_then next due (λ m some. law machine.moment m machine.held.associations (none_now machine timely) some)
 
--- what is known of a moment at which nothing is due, by what comes of it
+-- what is known of a time at which nothing is due, by what comes of it
 abbrev pub NoneComes : Type 0
 NoneComes = (now : ℕ) (associations : List Association) → All (HasNothingDue now) associations → SomethingComes now associations → ⊥
 
@@ -62,7 +62,7 @@ pub unrefused_before : NoneComes → (meaning : Meaning) (entries : List Entry) 
 unrefused_before law meaning entries next moment machine table reason timely quiet fits before is =
     law (max machine.moment moment) machine.held.associations (none_then next moment machine timely quiet fits before) (moment_needs (max machine.moment moment) machine.held.associations reason is)
 
--- what is known of a moment at which something is due, by what comes of it
+-- what is known of a time at which something is due, by what comes of it
 abbrev pub SomeComes : Type 0
 SomeComes = (now : ℕ) (old new : List Association) (table new_table : Database) (ticked : Ticked) → SomethingIsDue now old → Ticks now old table ticked new new_table → (ticked.requests ≡ []) × (ticked.closed ≡ []) × (length new ≡ length old) → ⊥
 

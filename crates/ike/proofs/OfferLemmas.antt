@@ -54,7 +54,7 @@ pub record AnswerLaws : Type 0 where
 
 -- ---- IKE_SA_INIT
 
--- the step answers, and an association is half open by it
+-- the step answers, and an IKE SA is half open by it
 record AnswersNow (stepped : Stepped) (reply : Octets) : Type 0 where
   closed : Option ℕ
   said : stepped.output ≡ output.Reply reply closed
@@ -105,7 +105,7 @@ sound_offers true laws meaning setup cookies from octets m old stepped new reply
     request_offers (position (is_answered octets) old.associations) laws meaning setup cookies from octets m old stepped new reply spelled is now
 sound_offers false laws meaning setup cookies from octets m old stepped new reply spelled is now = absurd (passed_offers _ old stepped new reply is now)
 
--- the effect of a message under keys makes no association half open
+-- the effect of a message under keys makes no IKE SA half open
 effect_offers : (ike number : ℕ) (e : Effect) (reply : Octets) → AnswersNow (stepped_of ike number e) reply → ⊥
 effect_offers ike number (effect.Refused f) reply now = none_some now.ike now.keyed
 effect_offers ike number (effect.Repeated octets) reply now = none_some now.ike now.keyed
@@ -195,7 +195,7 @@ notice_without : (spi_i : ℕ) (notice : Notice) (proposals : List Proposal) →
 notice_without spi_i notice proposals (zero, below, at) = absurd cc
 notice_without spi_i notice proposals (suc k, below, at) = absurd (omega (arith, below))
 
--- the step answers in clear, and no association comes by it
+-- the step answers in clear, and no IKE SA comes by it
 record AnswersOnly (stepped : Stepped) (reply : Octets) : Type 0 where
   closed : Option ℕ
   said : stepped.output ≡ output.Reply reply closed

@@ -1,4 +1,4 @@
--- An order on an association is done or refused by what is held of it, and a refusal has one reason.
+-- A command on an IKE SA is done or refused by what is held of it, and a refusal has one reason.
 use Rattle.std.proofs.Common.{◌≡◌, ◌⊎◌, inl, inr, ℕ, ◌+◌, ◌≤◌, Bool, true, false, cond, ◌∷◌, [], List, map, Option, Some, None, ap, refl, subst, sym, ◌∙◌}
 use Rattle.std.specs.FinMap as numbers
 use Rattle.std.specs.Option.{option_map}
@@ -90,7 +90,7 @@ same_outgoing a b same = ap (λ (z : Association). z.outgoing) same
 
 -- ---- one reason
 
--- what an order meets that is not for want of memory
+-- what a command meets that is no allocation failure
 abbrev pub Hinders : Association → OrderFault → Type 0
 Hinders a o = RefusesOrder a o × (is_want_of_memory (fault_of_order o) ≡ false)
 
@@ -174,7 +174,7 @@ probe_or_refused body_of setup serial order old other table stepped new new_tabl
     (sym (ap (option_map association_content) (probed_first body_of setup serial old stepped new a)) ∙ same_association serial old other same)
     (ordered_may body_of setup order a.association a.octets a.changed is.ordered) refuses
 
--- ---- a further child
+-- ---- an additional Child SA
 
 not_refused_further : (a b : Association) (table another : Database) → association_content a ≡ association_content b → table_content table ≡ table_content another → MayAsk a → ¬ IsFull table → ¬ IsSpent table
     → (f : OrderFault) → RefusesFurther b another f → is_want_of_memory (fault_of_order f) ≡ true
@@ -202,7 +202,7 @@ further_or_refused body_of setup serial local remote old other table another ste
     (sym (ap (option_map association_content) (probed_first body_of setup serial old stepped new a)) ∙ same_association serial old other same) alike
     (further_may body_of setup local remote a.association table a.octets a.changed new_table is.further) is.further.not_full is.further.not_spent refuses
 
--- what may be asked is not refused, but for the table or for want of memory
+-- what may be asked is not refused, but for the table or on allocation failure
 may_clash : (a b : Association) → association_content a ≡ association_content b → MayAsk a → (o : OrderFault) → RefusesOrder b o → is_want_of_memory (fault_of_order o) ≡ false → ⊥
 may_clash a b same may o refuses other = memory_only (is_want_of_memory (fault_of_order o)) (not_refused a b same may o refuses) other
 
@@ -255,7 +255,7 @@ one_further_refusal None serial old other table another one two same alike not_o
 one_further_refusal (Some entry) serial old other table another one two same alike not_one not_two is also =
     one_further_at (association_of serial old.associations) (association_of serial other.associations) table another one two (same_association serial old other same) alike not_one not_two is also
 
--- ---- what is ordered
+-- ---- what is commanded
 
 same_pair : (one other : Pair) → Some one ≡ Some other → one ≡ other
 same_pair one other same = cc
@@ -302,7 +302,7 @@ moment_refused now associations fault.NumbersSpent is = absurd is
 moment_refused now associations fault.BadFresh is = absurd is
 moment_refused now associations (fault.Memory f) is = refl
 
--- it comes only where something comes with the moment
+-- it comes only where something comes with the tick
 pub moment_needs : (now : ℕ) (associations : List Association) (reason : IkeFault) → RefusesMoment now associations reason → SomethingComes now associations
 moment_needs now associations (fault.Unread f) is = absurd is
 moment_needs now associations (fault.Message f) is = absurd is

@@ -1,4 +1,4 @@
--- What may go out of a step as a reply, and how long an association is held.
+-- What may go out of a step as a reply, and how long an IKE SA is held.
 use Rattle.std.proofs.Common.{◌≡◌, ◌==◌, ◌⊎◌, inl, inr, ℕ, ◌∷◌, [], Bool, true, false, cond, not, max, List, Option, Some, None, Result, Ok, Err, ap, arith, refl, subst, sym, ◌∙◌}
 use Rattle.std.specs.Cmp.Lexicographic.{same_text}
 use Rattle.std.specs.List.{position, AllZip}
@@ -324,7 +324,7 @@ step_window more ticks meaning entries (steps.Tick moment) old table stepped new
 
 -- ---- how long it is held
 
--- what a moment leaves
+-- what a tick leaves
 abbrev pub TicksLeave : Type 0
 TicksLeave = (now : ℕ) (old new : List Association) (table new_table : Database) (ticked : Ticked) → Ticks now old table ticked new new_table → AllZip (moments.StaysItself now ticked.closed) (held_of now old) new
 

@@ -1,4 +1,4 @@
--- While many associations are half open, nobody is kept for who can't be reached.
+-- While many IKE SAs are half open, nobody is kept for who can't be reached.
 use Rattle.std.proofs.Common.{◌≡◌, ◌<◌, ◌≤◌, inl, inr, ℕ, Bool, true, false, List, Option, Some, None, Result, Ok, Err, length, ap, subst, sym, ◌∙◌, arith}
 use Rattle.std.specs.List.{position}
 use Rattle.base.specs.Octets.{Octets}

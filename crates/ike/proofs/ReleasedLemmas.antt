@@ -1,4 +1,4 @@
--- Each SPI that is reserved in the table is held by an association, after a step as before it.
+-- Each SPI that is reserved in the table is held by an IKE SA, after a step as before it.
 use Rattle.std.proofs.Common.{◌≡◌, ◌≢◌, ◌⊎◌, ◌+◌, ◌++◌, ◌∷◌, inl, inr, ℕ, zero, suc, Bool, true, false, List, [], length, Some, None, ap, max, refl, subst, sym, ◌∙◌}
 use Rattle.std.proofs.lemmas.Bool.Decides.{eqb_tells}
 use Rattle.std.specs.List.{slice_get}
@@ -88,7 +88,7 @@ held_right (x ∷ xs) ys q h = held_later x (xs ++ ys) q (held_right xs ys q h)
 same_association : (a b : Association) → Some a ≡ Some b → a ≡ b
 same_association a b e = cc
 
--- one association changed, which holds what it held
+-- one IKE SA changed, which holds what it held
 held_replaced : (xs : List Association) (place : ℕ) (a changed : Association) (q : ℕ) → slice_get xs place ≡ Some a → (HoldsSpi a q → HoldsSpi changed q) → HoldsReservation xs q → HoldsReservation (slice_set xs place changed) q
 held_replaced xs place a changed q there still h = elim (eqb_tells h.place place) [
   | inl (one, same) ↦ (let found : slice_get xs place ≡ Some h.association = subst (λ k. slice_get xs k ≡ Some h.association) same h.there in
@@ -107,7 +107,7 @@ by_list xs ys q same h = subst (λ (l : List Association). HoldsReservation l q)
 listed : (old new : Held) → new ≡ old → new.associations ≡ old.associations
 listed old new same = ap (λ (h : Held). h.associations) same
 
--- ---- one association after the other at a moment
+-- ---- one IKE SA after the other on a tick
 
 same_purpose : (b : Bool) (r s : Request) → s.purpose ≡ r.purpose → (if b then s else r).purpose ≡ r.purpose
 same_purpose true r s same = same
@@ -141,7 +141,7 @@ removal_was old ike new q is there = subst (λ (d : Database). IsReserved d q) i
 over_was : (old : Association) (table : Database) (moment : ℕ) (new : Association) (new_table : Database) (q : ℕ) → Closes old table moment new new_table → IsReserved new_table q → IsReserved table q × (HoldsSpi old q → ⊥)
 over_was old table moment new new_table q is there = (is.released.reserved q).0 (removal_was is.between old.serial new_table q is.removed there)
 
--- what is reserved then was so before, and an association holds it still
+-- what is reserved then was so before, and an IKE SA holds it still
 pub record Keeps (old : List Association) (table : Database) (new : List Association) (q : ℕ) : Type 0 where
   pub before : IsReserved table q
   pub still : HoldsReservation old q → HoldsReservation new q
@@ -235,7 +235,7 @@ begun_then laws meaning setup place old table stepped new new_table q is there h
       | inr same ↦ record { place = length old.associations; association = its; there = last_there old.associations its; holds = inl (ap Some (sym same)) }
     ])
 
--- the association that asks holds what it held
+-- the IKE SA that asks holds what it held
 asking_holds : ReleaseLaws → (body_of : Keys → Octets → Octets → Octets → Octets) (setup : Setup) (ike : ℕ) (old : Held) (table : Database) (stepped : Stepped) (new : Held) (q : ℕ)
     → AreSound old table → AsksAt body_of setup ike old stepped new → HoldsReservation old.associations q → HoldsReservation new.associations q
 asking_holds laws body_of setup ike old table stepped new q sound is h =

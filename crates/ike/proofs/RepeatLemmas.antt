@@ -1,4 +1,4 @@
--- The association that answered a request is half open.
+-- The IKE SA that answered a request is half open.
 use Rattle.std.proofs.Common.{◌≡◌, ℕ, zero, suc, ◌∷◌, [], Bool, true, false, List, Some, None, ap, arith, refl, sym, ◌∙◌}
 use Rattle.std.specs.List.{position, slice_get}
 use Rattle.std.proofs.lemmas.Bool.{eq-eqb}

@@ -60,7 +60,7 @@ use Rattle.ike.proofs.SerialLemmas.{grown_found, replaced_found, replaced_stands
 use Rattle.ike.proofs.TickLemmas.{found_at, on_concluded, on_half_open, ticked_stood, TicksHold}
 use Rattle.ike.proofs.WayLemmas.{admitted, asked_one, datagram_way, further_one, probed, rested, started, step_way, took, Takes, Way}
 
--- what is known of one message's effect on one association
+-- what is known of one message's effect on one IKE SA
 pub record Laws : Type 0 where
   pub itself : (meaning : Meaning) (setup : Setup) (old : Association) (table : Database) (octets : Octets) (m : Message) (effect : Effect) (new : Association) (new_table : Database)
       → TakesMessage meaning setup old table octets m effect new new_table → KeepsIdentity old new
@@ -94,7 +94,7 @@ yes_no false one other = cc
 pub some_none : {T : Type 0} (x : T) → None ≡ Some x → ⊥
 some_none x is = cc
 
--- ---- what became of an association that is held through a step
+-- ---- what became of an IKE SA that is held through a step
 
 -- it took a message
 pub record Took (meaning : Meaning) (setup : Setup) (octets : Octets) (stepped : Stepped) (table : Database) (a b : Association) : Type 0 where
@@ -155,7 +155,7 @@ grown_same old table serial b c new sound next content a stood stands =
     let less = below old table serial a sound stood in
     sym (same_one a c (sym stood ∙ sym (grown_found old.associations b serial (λ e. omega (arith, less, e, next))) ∙ sym (ap (λ (h : Held). association_of serial h.associations) content) ∙ stands))
 
--- the association at a place is changed
+-- the IKE SA at a place is changed
 replaced_same : (old : Held) (table : Database) (place : ℕ) (a b : Association) (new : Held) (serial : ℕ) (was is : Association) → AreSound old table → At old place a → b.serial ≡ a.serial
     → new ≡ record old { associations = slice_set old.associations place b } → association_of serial old.associations ≡ Some was → association_of serial new.associations ≡ Some is
     → (is ≡ was) ⊎ ((was ≡ a) × (is ≡ b))
@@ -212,7 +212,7 @@ way_change laws meaning setup octets old table stepped new new_table serial a b 
           (ap (λ (x : Association). x.phase) is_now ∙ changed_phase meaning.body_of setup is.ike old stepped new p ∙ ap (λ (x : Association). x.phase) (sym was))
     ]
 
--- ---- what a step leaves of the peer's requests of one association
+-- ---- what a step leaves of the peer's requests of one IKE SA
 
 record Leaves (a b : Association) : Type 0 where
   follows : FollowsIncoming a.incoming b.incoming
@@ -242,7 +242,7 @@ ticked_leaves laws now a b on = record {
   opened = on_half_open now a b on;
 }
 
--- ---- the message that an association is found for
+-- ---- the message that an IKE SA is found for
 
 pub and_left : (b c : Bool) → (b && c) ≡ true → b ≡ true
 and_left true c is = refl
@@ -272,7 +272,7 @@ no_first : (b c d : Bool) → b ≡ false → (b && c && d) ≡ false
 no_first true c d is = absurd cc
 no_first false c d is = refl
 
--- a request is for an association that has its SPIs
+-- a request is for an IKE SA that has its SPIs
 pub request_pair : (h : Header) (a : Association) → h.flags.response ≡ false → is_meant h a ≡ true → has_pair h a ≡ true
 request_pair h a request meant =
     or_false (has_pair h a) (answers_initial h a) (no_response h.flags.response (h.exchange == IKE_SA_INIT) (a.spi_i == h.spi_i) (is_waiting a.phase) request) (and_right (sent_by_other a.role h.flags.initiator) (has_pair h a || answers_initial h a) meant)
@@ -301,7 +301,7 @@ one_owner held table k place c a sound there here same = elim (eqb_tells k place
   ]
 ]
 
--- an association that a message opens under has keys
+-- an IKE SA that a message opens under has keys
 has_keys : (plain_of : Opening) (role : Role) (keys : Option KeyRecord) (octets : Octets) (payloads : List Payload) (plain : Plain) → opened_under plain_of role keys octets payloads ≡ Some plain → (k : KeyRecord) × (keys ≡ Some k)
 has_keys plain_of role None octets payloads plain is = absurd (some_none plain is)
 has_keys plain_of role (Some keys) octets payloads plain is = (keys, refl)
@@ -310,7 +310,7 @@ named_by : (r : Role) (a : Association) (next : ℕ) (table : Database) → a.ro
 named_by Initiator a next table role sound keyed = sound.soundly.named keyed role
 named_by Responder a next table role sound keyed = λ zero. sound.own (ap (λ r. spi_by_role r a.spi_i a.spi_r) role ∙ zero)
 
--- where an association stands that a datagram opens under, and that it is found for it
+-- where an IKE SA stands that a datagram opens under, and that it is found for it
 pub record Finds (held : Held) (a : Association) (h : Header) : Type 0 where
   pub place : ℕ
   pub there : At held place a

@@ -1,4 +1,4 @@
--- Associations by their serials.
+-- IKE SAs by their serials.
 use Rattle.std.proofs.Common.{◌≡◌, ◌≢◌, inl, inr, ℕ, zero, suc, ◌<◌, ◌++◌, ◌∷◌, [], Bool, true, false, cond, not, List, length, Option, Some, None, ap, refl, subst, sym, ◌∙◌, arith}
 use Rattle.std.specs.List.{slice_get}
 use Rattle.std.specs.Prelude.{option_and_then, slice_set}
@@ -38,7 +38,7 @@ found_first (x ∷ xs) (suc place) a there below =
     ap (λ b. cond b (Some x) (association_of a.serial xs)) (ne_eqb x.serial a.serial (λ e. omega (arith, less, e)))
     ∙ found_first xs place a there (λ k c before is. below (suc k) c (omega (arith, before)) is)
 
--- of associations that are sound each is the one with its serial
+-- of IKE SAs that are sound each is the one with its serial
 pub sound_found : (held : Held) (table : Database) (place : ℕ) (a : Association) → AreSound held table → At held place a → association_of a.serial held.associations ≡ Some a
 sound_found held table place a sound there =
     found_first held.associations place a there (λ k c before is. (sound.apart k place c a before is there).rising)
@@ -119,7 +119,7 @@ picked_keys : (b : Bool) (x : Association) (o more : Option Association) (keys :
 picked_keys true x o more keys stay is = is
 picked_keys false x o more keys stay is = stay is
 
--- one more association leaves the others their keys
+-- one more IKE SA leaves the others their keys
 pub grown_keys : (xs : List Association) (b : Association) (serial : ℕ) (keys : KeyRecord) → keys_of_serial serial xs ≡ Some keys → keys_of_serial serial (xs ++ b ∷ []) ≡ Some keys
 grown_keys [] b serial keys is = absurd cc
 grown_keys (x ∷ xs) b serial keys is =

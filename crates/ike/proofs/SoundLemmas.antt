@@ -1,4 +1,4 @@
--- Associations stay sound with the table, whatever a step does.
+-- IKE SAs stay sound with the table, whatever a step does.
 use Rattle.std.proofs.Common.{◌≡◌, ◌≢◌, ◌⊎◌, inl, inr, ℕ, ◌+◌, ◌<◌, ◌≤◌, ◌++◌, ◌∷◌, [], List, length, Some, ap, refl, subst, sym, ◌∙◌, arith}
 use Rattle.std.specs.List.{slice_get}
 use Rattle.std.specs.Prelude.{slice_set}
@@ -26,7 +26,7 @@ Stands {A} xs i y k b = ((k ≡ i) × (b ≡ y)) ⊎ ((k ≢ i) × (slice_get xs
 pub other_holds : (table new_table : Database) (a : Association) → ((spi : ℕ) → HoldsSpi a spi → IsReserved table spi → IsReserved new_table spi) → HoldsReserved a table → HoldsReserved a new_table
 other_holds table new_table a stays holds = record { reserved = λ spi its. stays spi its (holds.reserved spi its); first = holds.first; one = holds.one }
 
--- what is asked of the association b that stands at a place from now on, among others
+-- what is asked of the IKE SA b that stands at a place from now on, among others
 pub record Joins (old : Held) (place : ℕ) (b : Association) (next : ℕ) (table new_table : Database) : Type 0 where
   pub sound : IsSound b next new_table
   pub more : old.next ≤ next
@@ -116,7 +116,7 @@ sound_with old table new_table stays sound =
       apart = sound.apart;
     }
 
--- ---- an association that a message changed
+-- ---- an IKE SA that a message changed
 
 by_role : (a b : Association) (r : Role) → a.role ≡ r → b.role ≡ r → spi_by_role r b.spi_i b.spi_r ≡ spi_by_role r a.spi_i a.spi_r → own_spi b ≡ own_spi a
 by_role a b r was is same =

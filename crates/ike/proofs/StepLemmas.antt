@@ -1,4 +1,4 @@
--- A step keeps associations and table sound, by what a message does to one association.
+-- A step keeps IKE SAs and table sound, by what a message does to one IKE SA.
 use Rattle.std.proofs.Common.{◌≡◌, ◌≢◌, ◌||◌, ◌⊎◌, inl, inr, ℕ, ◌+◌, ◌<◌, ◌≤◌, Bool, true, false, List, length, Option, Some, None, Result, Ok, Err, ap, refl, subst, sym, ◌∙◌, arith, max}
 use Rattle.std.specs.Cmp.{nat_cmp_total, unsigned_tied}
 use Rattle.std.specs.FinSet as set
@@ -108,7 +108,7 @@ pub record Laws : Type 0 where
   pub room : (cipher : Cipher) (group : ℕ) (secrets : CookieSecrets) (sender : Sender) (half_open held : ℕ) (payloads : List Payload) (offer : OfferView)
       → IsJudgement cipher group secrets sender half_open held payloads (Accepted offer) → (half_open < HALF_OPEN_LIMIT) × (held < ASSOCIATION_LIMIT)
 
--- what is known of requests that go out, and of a moment
+-- what is known of requests that go out, and of a tick
 pub record OrderLaws : Type 0 where
   pub requested : (body_of : Keys → Octets → Octets → Octets → Octets) (setup : Setup) (old : Association) (octets : Octets) (new : Association) → KeepsShort old → SendsRequest body_of setup old octets new → KeepsShort new × IsShort octets
   pub requested_soundly : (body_of : Keys → Octets → Octets → Octets → Octets) (setup : Setup) (old : Association) (octets : Octets) (new : Association) → IsSoundlyHeld old → SendsRequest body_of setup old octets new → IsSoundlyHeld new
@@ -129,7 +129,7 @@ same_sound : (old new : Held) (table new_table : Database) → AreSound old tabl
 same_sound old new table new_table sound same unchanged =
     subst (λ (d : Database). AreSound new d) (sym unchanged) (subst (λ (h : Held). AreSound h table) (sym same) sound)
 
--- ---- a message for an association that is held
+-- ---- a message for an IKE SA that is held
 
 taken_joins : (laws : Laws) (place : ℕ) (meaning : Meaning) (setup : Setup) (octets : Octets) (m : Message) (old : Held) (table : Database) (stepped : Stepped) (new : Held) (new_table : Database)
     → IsSoundTable table → AreSound old table → (is : TakesAt place meaning setup octets m old table stepped new new_table)
@@ -211,7 +211,7 @@ last_joins old b table new_table sound usable serial initiator responder short s
       after = λ k c more there. let within = slice_get_within old.associations k c there in absurd (omega (arith, more, within));
     }
 
--- a half-open association waits for no response
+-- a half-open IKE SA waits for no response
 opened_initial : (opened : HalfOpen) (sent : InitSent) → phase.HalfOpen opened ≡ phase.InitSent sent → ⊥
 opened_initial opened sent is = cc
 
@@ -243,7 +243,7 @@ many_clash : (b : Bool) → b ≡ true → b ≡ false → ⊥
 many_clash true positive negative = absurd cc
 many_clash false positive negative = absurd cc
 
--- a request of IKE_SA_INIT that no half-open association answered before
+-- a request of IKE_SA_INIT that no half-open IKE SA answered before
 record IsAnew (octets : Octets) (old : Held) : Type 0 where
   asked : IsInitialRequest octets
   first : position (is_answered octets) old.associations ≡ None
@@ -330,7 +330,7 @@ datagram_sound laws meaning setup cookies from octets old table stepped new new_
       | inr read ↦ read_sound laws (is_initial_request read.message.header) meaning setup cookies from octets read.message old table stepped new new_table sound_table sound read.spelled refl read.done
     ]
 
--- ---- an order to start
+-- ---- a command to start
 
 same_spi : (spi q : ℕ) → Some spi ≡ Some q → spi ≡ q
 same_spi spi q e = cc
@@ -342,7 +342,7 @@ no_fault : (b : Bool) (f : IkeFault) (rest : Option IkeFault) → (if b then Som
 no_fault true f rest is = absurd cc
 no_fault false f rest is = refl
 
--- an order that nothing is said against
+-- a command that nothing is said against
 record IsFree (old : Held) (spi : ℕ) : Type 0 where
   few : length old.associations < ASSOCIATION_LIMIT
   usable : is_bad_spi spi old.associations ≡ false
@@ -411,9 +411,9 @@ start_sound laws meaning setup place old table stepped new new_table sound_table
     let is_new : spi ≡ is.done.spi = laws.begins_one meaning.cipher meaning.group meaning.public_value setup.fresh setup.moment old.next is.beginning (child_by is.entry is.done.spi setup.config.extended) spi is.begins e in
     absurd (omega (arith, given, is_new, same_next, is.done.reserved.in_order)))))
 
--- ---- a request of an association that stands
+-- ---- a request of an IKE SA that stands
 
--- what becomes of the SPIs that an association holds as it asks: each stays reserved, and those that come
+-- what becomes of the SPIs that an IKE SA holds as it asks: each stays reserved, and those that come
 -- were not
 record AskedSpis (a : Association) (table : Database) (b : Association) (new_table : Database) : Type 0 where
   reserved : HoldsReserved b new_table
@@ -519,7 +519,7 @@ further_sound laws meaning setup ike place old table stepped new new_table sound
     probed_sound laws meaning.body_of setup ike old table new_table stepped new sound a
     (further_spis laws meaning.body_of setup (local_side is.entry) (remote_side is.entry) a.association a.octets a.changed table new_table sound_table (sound.each a.place a.association a.there).reserved is.asks.further)
 
--- ---- a moment
+-- ---- a tick
 
 passed_sound : (laws : OrderLaws) (now : ℕ) (old : Held) (table : Database) (new : Held) (new_table : Database) (stepped : Stepped) → AreSound old table → TakesHeld now old table new new_table stepped → AreSound new new_table
 passed_sound laws now old table new new_table stepped sound is =

@@ -1,4 +1,4 @@
--- What a step says of an association, and of which it says nothing.
+-- What a step says of an IKE SA, and of which it says nothing.
 use Rattle.std.proofs.Common.{◌≡◌, ◌≢◌, ◌⊎◌, inl, inr, ℕ, zero, suc, ◌∷◌, [], Bool, true, false, not, List, length, Option, Some, None, All, Contains, arith, ap, refl, subst, sym, ◌∙◌}
 use Rattle.std.proofs.lemmas.List.Elements.{All-contains, Contains-append_cases}
 use Rattle.std.proofs.lemmas.Option.{slice_get_read}
@@ -33,7 +33,7 @@ use Rattle.ike.specs.declared.output.Stepped.{Stepped}
 use Rattle.ike.proofs.SerialLemmas.{same_one, sound_found}
 use Rattle.ike.proofs.WayLemmas.{GoesOut}
 
--- ---- a step that says nothing of an association
+-- ---- a step that says nothing of an IKE SA
 
 pub record IsSilent (stepped : Stepped) (serial : ℕ) : Type 0 where
   pub sent : (mark : Mark) → stepped.trace.sent ≡ Some mark → mark.ike ≡ serial → ⊥
@@ -97,7 +97,7 @@ pub request_silent : (ike : ℕ) (octets : Octets) (serial : ℕ) → IsSilent (
 request_silent ike octets serial =
     record { sent = λ mark is here. none_marked mark is; again = λ ticked is. cc; keyed = λ is. none_marked serial is; counted = λ child closed is. cc; closed = λ told. told; child = λ made named here. none_marked made named }
 
--- one of another association
+-- one of another IKE SA
 other_sent : (ike number serial : ℕ) (response : Bool) (mark : Mark) → serial ≢ ike → Some (record { ike = ike; response = response; number = number }) ≡ Some mark → mark.ike ≡ serial → ⊥
 other_sent ike number serial response mark apart is here = apart (sym here ∙ sym (ap (λ (m : Mark). m.ike) (same_mark (record { ike = ike; response = response; number = number }) mark is)))
 
@@ -179,7 +179,7 @@ sent_by_mark moves old o ike number response said mark octets is out sent =
     subst (λ (m : Mark). IsSentBy moves old o m octets) (same_mark (record { ike = ike; response = response; number = number }) mark is)
     (subst (λ (x : Octets). IsSentBy moves old o (record { ike = ike; response = response; number = number }) x) (same_octets said octets out) sent)
 
--- a child is made by the move beside it
+-- a Child SA is made by the move beside it
 made_so : (moves : List Move) (one other : MadeChild) → one ≡ other → IsMadeBy moves one → IsMadeBy moves other
 made_so moves one other same is = subst (λ (m : MadeChild). IsMadeBy moves m) same is
 
@@ -278,7 +278,7 @@ half_open_says old serial octets keys =
       child = λ made named here. absurd (none_marked made named);
     }
 
--- ---- a moment
+-- ---- a tick
 
 -- what is known of what goes out again, and of what is closed
 pub record TickFacts : Type 0 where
@@ -291,7 +291,7 @@ not_false : (b : Bool) → not b ≡ true → b ≡ false
 not_false true is = absurd cc
 not_false false is = refl
 
--- it waits at its association
+-- it waits at its IKE SA
 pub resent_waits : (facts : TickFacts) (now : ℕ) (old : Held) (new : List Association) (table : Database) (r : Resent) → AreSound old table → (o : IsOutstandingOf now old.associations new r) → r.encrypted ≡ true
     → WaitsWith (ledger o.before) r.number o.request.octets
 resent_waits facts now old new table r sound o sealed =

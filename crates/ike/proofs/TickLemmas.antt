@@ -1,4 +1,4 @@
--- A moment keeps what holds of the associations that are held on.
+-- A tick keeps what holds of the IKE SAs that are held on.
 use Rattle.std.proofs.Common.{◌≡◌, ◌⊎◌, inl, inr, ℕ, zero, suc, ◌<◌, ◌≤◌, ◌∷◌, [], Bool, true, false, cond, List, length, Option, Some, None, ap, refl, subst, sym, ◌∙◌, arith}
 use Rattle.std.proofs.lemmas.Option.{none-some}
 use Rattle.std.specs.FinMap as map
@@ -38,11 +38,11 @@ use Rattle.ike.proofs.CountLemmas.{count_lighter, count_more}
 use Rattle.ike.proofs.SerialLemmas.{same_one, sound_found}
 use Rattle.ike.proofs.SoundLemmas.{alone}
 
--- what is known of a moment
+-- what is known of a tick
 abbrev pub TicksHold : Type 0
 TicksHold = (now : ℕ) (old : List Association) (table : Database) (ticked : Ticked) (new : List Association) (new_table : Database) → Ticks now old table ticked new new_table → HoldSome now old new
 
--- ---- where an association that is held on came from
+-- ---- where an IKE SA that is held on came from
 
 pub record Origin (now : ℕ) (old : List Association) (place : ℕ) (b : Association) : Type 0 where
   pub from : ℕ
@@ -349,7 +349,7 @@ pub found_at : (xs : List Association) (serial : ℕ) (b : Association) → asso
 found_at [] serial b e = absurd cc
 found_at (x ∷ xs) serial b e = found_by (has_serial serial x) x xs serial b refl (found_at xs serial b) e
 
--- the association with a serial was held under it before
+-- the IKE SA with a serial was held under it before
 pub record WasHeld (now : ℕ) (old : Held) (serial : ℕ) (b : Association) : Type 0 where
   pub was : Association
   pub stood : association_of serial old.associations ≡ Some was

@@ -1,4 +1,4 @@
--- What goes out of a step is short, and its trace names associations that are held and have keys.
+-- What goes out of a step is short, and its trace names IKE SAs that are held and have keys.
 use Rattle.std.proofs.Common.{◌≡◌, ◌⊎◌, ◌≤◌, inl, inr, ℕ, Bool, true, false, List, length, Option, Some, None, IsSome, ap, refl, subst, sym, ◌∙◌, arith}
 use Rattle.std.specs.List.{slice_get}
 use Rattle.std.specs.Prelude.{All, slice_index_or}
@@ -70,7 +70,7 @@ TicksAgain = (now : ℕ) (old new : List Association) (table new_table : Databas
 
 -- ---- what goes out is short
 
--- what is known of what an association keeps
+-- what is known of what an IKE SA keeps
 pub record ShortFacts : Type 0 where
   pub requested : (body_of : Keys → Octets → Octets → Octets → Octets) (setup : Setup) (old : Association) (octets : Octets) (new : Association) → KeepsShort old → SendsRequest body_of setup old octets new → KeepsShort new × IsShort octets
   pub sent : (meaning : Meaning) (setup : Setup) (old : Association) (table : Database) (octets : Octets) (m : Message) (effect : Effect) (new : Association) (new_table : Database) (said : Octets)
@@ -142,7 +142,7 @@ step_short facts meaning entries input old table stepped new new_table octets so
   | inr passes ↦ absurd (none_out octets (sym (ap (λ (s : Stepped). octets_in s.output) passes.takes.said) ∙ named))
 ]
 
--- what goes out again with a moment
+-- what goes out again with a tick
 same_ticked : (one other : Ticked) → output.Ticked one ≡ output.Ticked other → one ≡ other
 same_ticked one other e = cc
 
@@ -158,7 +158,7 @@ again_short again input old new table new_table stepped ticked sound passes said
     subst (λ (x : Octets). IsShort x) (sym (ap (λ (r : Resent). r.octets) o.resent))
     ((sound.each place.0 o.before (slice_get_read old.associations (length old.associations) place.0 o.before refl place.1 (sym place.2))).short.requests (slice_index_or t.ticked.requests k d).number o.request o.there))
 
--- a moment alone brings this
+-- a tick alone brings this
 still_output : (old : Held) (said : IkeOutput) (ticked : Ticked) → GoesOut old said → said ≡ output.Ticked ticked → ⊥
 still_output old (output.Reply octets closed) ticked goes e = cc
 still_output old (output.Repeat octets) ticked goes e = cc
@@ -334,7 +334,7 @@ keyed_asks ike number (effect.Counted ended) other keyed = absurd (none_out othe
 asks_keyed : (ike number : ℕ) (e : Effect) → IsAsking e → (stepped_of ike number e).trace.keyed ≡ Some ike
 asks_keyed ike number e asking = ap (λ (x : Effect). (stepped_of ike number x).trace.keyed) asking.is
 
--- the child of an effect is named
+-- the Child SA of an effect is named
 child_names : (ike number : ℕ) (e : Effect) (serial : ℕ) → child_in e ≡ Some serial → NamesChild (stepped_of ike number e) serial
 child_names ike number (effect.Refused f) serial told = absurd (none_out serial told)
 child_names ike number (effect.Repeated octets) serial told = absurd (none_out serial told)
@@ -345,7 +345,7 @@ child_names ike number (effect.AsksAuth octets) serial told = absurd (none_out s
 child_names ike number (effect.Counted ended) serial told =
     record { made = record { serial = serial; ike = ike; number = number; asked = true }; named = ap (λ (o : Option ℕ). child_of ike number true o) told; same = refl }
 
--- an association that keys came to had none
+-- an IKE SA that keys came to had none
 took_none : (facts : ToldFacts) (meaning : Meaning) (setup : Setup) (octets : Octets) (old : Held) (table : Database) (stepped : Stepped) (new : Held) (new_table : Database) (other : ℕ)
     → AreSound old table → (is : Takes meaning setup octets old table stepped new new_table) → other ≡ is.takes.association.serial
     → (stepped_of is.takes.association.serial is.message.header.id is.takes.effect).trace.keyed ≡ Some other → keys_of_serial other old.associations ≡ None
@@ -440,12 +440,12 @@ last_come old b new new_table serial keys now content are =
           inl (sym same_keys ∙ are)
     ]
 
--- what is known of a moment
+-- what is known of a tick
 pub record TickFacts : Type 0 where
   pub held : TicksHold
   pub pairs : (now : ℕ) (old : List Association) (table : Database) (ticked : Ticked) (new : List Association) (new_table : Database) → Ticks now old table ticked new new_table → LeavesFewer table new_table
 
--- keys that there are belong to an association
+-- keys that there are belong to an IKE SA
 record Keyed_by (xs : List Association) (serial : ℕ) (keys : KeyRecord) : Type 0 where
   association : Association
   stands : association_of serial xs ≡ Some association
@@ -522,7 +522,7 @@ started_traced meaning setup old table stepped new new_table now is =
     ])
     (ap (λ (d : Database). d.pairs) s.done.reserved.content ∙ ap (λ (d : Database). d.pairs) s.room.content)
 
--- a pair that was there, or is marked now
+-- an SA pair that was there, or is being deleted now
 named_or_marked : (stepped : Stepped) (table : Database) (serial : ℕ) (pair : Pair) → (pair_at table.pairs serial ≡ Some pair) ⊎ BecameDeleting table serial pair
     → (pair_at table.pairs serial ≡ Some pair) ⊎ NamesChild stepped serial ⊎ BecameDeleting table serial pair
 named_or_marked stepped table serial pair (inl there) = inl there
@@ -534,7 +534,7 @@ one_pairs ike table new_table serial pair (inl is) there = marked_pairs is.order
 one_pairs ike table new_table serial pair (inr is) there =
     inl (sym (ap (λ (d : Database). pair_at d.pairs serial) is.reserved.content ∙ ap (λ (d : Database). pair_at d.pairs serial) is.room.content) ∙ there)
 
--- an association that asks has keys, and all others have those that they had
+-- an IKE SA that asks has keys, and all others have those that they had
 probed_traced : (meaning : Meaning) (setup : Setup) (old : Held) (table : Database) (stepped : Stepped) (new : Held) (new_table : Database)
     → AreSound old table → AsksOne meaning setup old table stepped new new_table → IsTraced old table stepped new new_table
 probed_traced meaning setup old table stepped new new_table sound is =
@@ -551,7 +551,7 @@ probed_traced meaning setup old table stepped new new_table sound is =
     } in
     subst (λ (s : Stepped). IsTraced old table s new new_table) (sym p.said) traced
 
--- with a moment no keys come, and no pair
+-- with a tick no keys come, and no pair
 passed_traced : (facts : TickFacts) (now : ℕ) (old : Held) (table : Database) (new : Held) (new_table : Database) (stepped : Stepped) → AreSound old table → TakesHeld now old table new new_table stepped
     → IsTraced old table stepped new new_table
 passed_traced facts now old table new new_table stepped sound is =
@@ -620,7 +620,7 @@ step_keys facts held meaning entries input old table stepped new new_table seria
       on_keys passes.now before.was a before.on ∙ sym (ap keys_of before.stood) ∙ are
 ]
 
--- ---- children
+-- ---- Child SAs
 
 took_makes : (facts : TraceFacts) (meaning : Meaning) (setup : Setup) (octets : Octets) (old : Held) (table : Database) (stepped : Stepped) (made : MadeChild) (new : Held) (new_table : Database)
     → IsSoundTable table → AreSound old table → AreSound new new_table → Takes meaning setup octets old table stepped new new_table → stepped.trace.child ≡ Some made
@@ -721,7 +721,7 @@ step_asks facts meaning entries from octets fresh old table stepped ike next new
     (facts.sound meaning entries (steps.Message from octets fresh) old table stepped new new_table sound_table sound is).held
     (datagram_way meaning (setup_at old entries fresh) old.cookies from octets old.held table stepped new.held new_table is.1) said keyed
 
--- ---- who waits for a child waited for it before, or asks for it now
+-- ---- who waits for a Child SA waited for it before, or asks for it now
 
 same_phase : (a b : Association) (sent : AuthSent) → a ≡ b → b.phase ≡ phase.AuthSent sent → a.phase ≡ phase.AuthSent sent
 same_phase a b sent same waits = ap (λ (x : Association). x.phase) same ∙ waits

@@ -1,4 +1,4 @@
--- What a step that is no moment leaves of what waits for an answer, and of the phases that end with time.
+-- What a step that is no tick leaves of what waits for an answer, and of the phases that end with time.
 use Rattle.std.proofs.Common.{◌≡◌, ◌⊎◌, inl, inr, ℕ, Bool, false, List, Option, Some, None, ap, refl, subst, sym, ◌∙◌}
 use Rattle.std.specs.FinMap as map
 use Rattle.std.specs.Ordering.{nat_cmp}
@@ -43,7 +43,7 @@ use Rattle.ike.proofs.AskingLemmas.{changed_itself, probed_serial}
 use Rattle.ike.proofs.SerialLemmas.{same_one}
 use Rattle.ike.proofs.WayLemmas.{admitted, asked_one, datagram_way, further_one, probed, rested, started, took, AdmitsOne, AsksOne, StartsOne, Takes, Way}
 
--- what is known of one association
+-- what is known of one IKE SA
 pub record WaitLaws : Type 0 where
   pub itself : (meaning : Meaning) (setup : Setup) (old : Association) (table : Database) (octets : Octets) (m : Message) (e : Effect) (new : Association) (new_table : Database)
       → TakesMessage meaning setup old table octets m e new new_table → KeepsIdentity old new
@@ -63,7 +63,7 @@ pub record WaitLaws : Type 0 where
   pub beside : (body_of : Keys → Octets → Octets → Octets → Octets) (setup : Setup) (old : Association) (octets : Octets) (new : Association) (number : ℕ) (request : Request) → IsSoundlyHeld old → SendsRequest body_of setup old octets new
       → map.get old.outgoing.outstanding number ≡ Some request → map.get new.outgoing.outstanding number ≡ Some request
 
--- what a step that is no moment leaves of what waits, and of phases that have a time
+-- what a step that is no tick leaves of what waits, and of phases that have a time
 pub record Times (answered moment : ℕ) (old : Held) (stepped : Stepped) (new : Held) (serial : ℕ) : Type 0 where
   pub waits : (number : ℕ) (request : Request) → WaitsAt new serial number request → WaitsAt old serial number request ⊎ StartsToWait moment old stepped new serial number request
   pub waited : (number : ℕ) (request : Request) → WaitsAt old serial number request → WaitsAt new serial number request ⊎ StopsWaiting answered stepped.output serial number
@@ -76,7 +76,7 @@ same_octets one other is = cc
 none_some : (a : Association) → None ≡ Some a → ⊥
 none_some a is = cc
 
--- the association is another one
+-- the IKE SA is another one
 times_apart : (answered moment : ℕ) (old : Held) (stepped : Stepped) (new : Held) (serial : ℕ) → association_of serial new.associations ≡ association_of serial old.associations → Times answered moment old stepped new serial
 times_apart answered moment old stepped new serial same = record {
   waits = λ number request waits. inl (record { association = waits.association; there = sym same ∙ waits.there; waits = waits.waits });

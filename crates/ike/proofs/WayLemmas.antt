@@ -34,14 +34,14 @@ use Rattle.ike.specs.declared.output.IkeOutput.{IkeOutput}
 use Rattle.ike.specs.declared.output.IkeOutput.TheVariants as output
 use Rattle.ike.specs.declared.output.Stepped.{Stepped}
 
--- a half-open association keeps this reply
+-- a half-open IKE SA keeps this reply
 pub record IsKept (old : Held) (octets : Octets) : Type 0 where
   pub place : ℕ
   pub association : Association
   pub there : slice_get old.associations place ≡ Some association
   pub kept : kept_reply association.phase ≡ Some octets
 
--- what goes out where nothing changes: a notice, a reply that is kept, or nothing
+-- what goes out where nothing changes: a notification, a reply that is kept, or nothing
 abbrev pub GoesOut : Held → IkeOutput → Type 0
 GoesOut old (output.Reply octets None) = IsShort octets
 GoesOut old (output.Reply octets (Some closed)) = ⊥
@@ -59,7 +59,7 @@ pub record Rests (old : Held) (table : Database) (stepped : Stepped) (new : Held
   pub same : new ≡ old
   pub pairs : new_table ≡ table
 
--- an association that is held takes a message
+-- an IKE SA that is held takes a message
 pub record Takes (meaning : Meaning) (setup : Setup) (octets : Octets) (old : Held) (table : Database) (stepped : Stepped) (new : Held) (new_table : Database) : Type 0 where
   pub message : Message
   pub spelled : Spells message octets
@@ -67,7 +67,7 @@ pub record Takes (meaning : Meaning) (setup : Setup) (octets : Octets) (old : He
   pub found_there : place_meant message.header old.associations ≡ Ok place
   pub takes : TakesAt place meaning setup octets message old table stepped new new_table
 
--- an association is half open from then on
+-- an IKE SA is half open from then on
 pub record AdmitsOne (meaning : Meaning) (setup : Setup) (octets : Octets) (old : Held) (table : Database) (stepped : Stepped) (new : Held) (new_table : Database) : Type 0 where
   pub offer : OfferView
   pub spi_i : ℕ
@@ -75,18 +75,18 @@ pub record AdmitsOne (meaning : Meaning) (setup : Setup) (octets : Octets) (old 
   pub admits : AdmitsNext meaning setup offer spi_i octets old stepped new
   pub pairs : new_table ≡ table
 
--- an association is begun
+-- an IKE SA is begun
 pub record StartsOne (meaning : Meaning) (setup : Setup) (old : Held) (table : Database) (stepped : Stepped) (new : Held) (new_table : Database) : Type 0 where
   pub place : ℕ
   pub starts : BeginsBy meaning setup place old table stepped new new_table
 
--- the child that an association asks to delete is its own, and Live
+-- the Child SA that an IKE SA asks to delete is its own, and Live
 abbrev pub IsOwnFor : Order → PairMap → ℕ → Type 0
 IsOwnFor asked.Probe pairs ike = Unit {0}
 IsOwnFor (asked.DeleteChild child spi) pairs ike = IsOwnLive pairs ike child
 IsOwnFor asked.DeleteAssociation pairs ike = Unit {0}
 
--- what an order leaves of the table: a pair of the association's is marked, or nothing is changed
+-- what a command leaves of the table: an SA pair of the IKE SA's is being deleted, or nothing is changed
 pub record LeavesOrdered (ike : ℕ) (table new_table : Database) : Type 0 where
   pub order : Order
   pub own : IsOwnFor order table.pairs ike
@@ -99,7 +99,7 @@ pub record LeavesReserved (table new_table : Database) : Type 0 where
   pub spi : ℕ
   pub reserved : Reserves between spi new_table
 
--- an association asks its peer something
+-- an IKE SA asks its peer something
 pub record AsksOne (meaning : Meaning) (setup : Setup) (old : Held) (table : Database) (stepped : Stepped) (new : Held) (new_table : Database) : Type 0 where
   pub ike : ℕ
   pub probes : AsksAt meaning.body_of setup ike old stepped new
@@ -127,7 +127,7 @@ asked_one meaning setup (orders.DeleteChild child) old table stepped new new_tab
     (record { pair = is.pair; there = is.there; its = refl; live = is.live }) is.asks
 asked_one meaning setup (orders.DeleteIke ike) old table stepped new new_table is = that_one meaning setup ike asked.DeleteAssociation old table stepped new new_table tt is
 
--- what is due at a moment is done
+-- what is due at a time is done
 pub record PassesMoment (input : InputView) (old : Held) (table : Database) (stepped : Stepped) (new : Held) (new_table : Database) : Type 0 where
   pub now : ℕ
   pub ticks : is_tick input ≡ true

@@ -1,4 +1,4 @@
--- The keys of all associations stay whole, whatever a step does.
+-- The keys of all IKE SAs stay whole, whatever a step does.
 use Rattle.std.proofs.Common.{◌≡◌, ◌≢◌, ◌⊎◌, inl, inr, ℕ, Bool, true, false, List, length, Option, Some, None, Result, Ok, Err, sym, ap, subst, ◌∙◌, max}
 use Rattle.std.specs.List.{position, slice_get}
 use Rattle.std.specs.Prelude.{slice_set}
@@ -45,7 +45,7 @@ pub record KeyLaws : Type 0 where
 unchanged : (old new : Held) → new ≡ old → HoldWholeKeys old → HoldWholeKeys new
 unchanged old new same whole = subst HoldWholeKeys (sym same) whole
 
--- one association comes, or is changed, and its keys are whole
+-- one IKE SA comes, or is changed, and its keys are whole
 after_next : (old : Held) (x : Association) → HoldWholeKeys old → HoldsWholeKeys x.phase → HoldWholeKeys (with_next old x)
 after_next old x whole more k b there = go (grown old.associations x k b there) where
   go : ((k ≡ length old.associations) × (b ≡ x)) ⊎ ((k ≢ length old.associations) × (slice_get old.associations k ≡ Some b)) → HoldsWholeKeys b.phase

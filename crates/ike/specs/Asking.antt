@@ -1,5 +1,5 @@
 -- The commands that ask the peer something under an established IKE SA: a liveness check, a deletion of a
--- child or of the IKE SA, or an additional child (RFC 7296 sections 1.3.1, 1.4, 1.4.1 and 2.4).
+-- Child SA or of the IKE SA, or an additional child (RFC 7296 sections 1.3.1, 1.4, 1.4.1 and 2.4).
 use Rattle.std.specs.Prelude.{◌≡◌, ℕ, Option, Some, None, slice_get, slice_set}
 use Rattle.std.specs.List.{position}
 use Rattle.base.specs.Octets.{Octets}
@@ -42,13 +42,13 @@ pub record AsksAt (body_of : Keys → Octets → Octets → Octets → Octets) (
   pub said : stepped ≡ asking_step ike association.outgoing.next octets
   pub content : new ≡ record old { associations = slice_set old.associations place changed }
 
--- it asks this; the pair of a child that is to be deleted is Deleting from then on
+-- it asks this; the pair of a Child SA that is to be deleted is Deleting from then on
 pub record AsksThat (body_of : Keys → Octets → Octets → Octets → Octets) (setup : Setup) (ike : ℕ) (order : Order) (old : Held) (table : Database) (stepped : Stepped) (new : Held) (new_table : Database) : Type 0 where
   pub asks : AsksAt body_of setup ike old stepped new
   pub ordered : Asks body_of setup order asks.association asks.octets asks.changed
   pub marked : MarksFor order table new_table
 
--- The IKE SA of a child that is Live asks that the child be deleted, by the SPI under which this end
+-- The IKE SA of a Child SA that is Live asks that the child be deleted, by the SPI under which this end
 -- receives.
 pub record DeletesChild (body_of : Keys → Octets → Octets → Octets → Octets) (setup : Setup) (serial : ℕ) (old : Held) (table : Database) (stepped : Stepped) (new : Held) (new_table : Database) : Type 0 where
   pub pair : Pair
@@ -56,7 +56,7 @@ pub record DeletesChild (body_of : Keys → Octets → Octets → Octets → Oct
   pub live : pair.state ≡ Live
   pub asks : AsksThat body_of setup pair.ike (asked.DeleteChild serial pair.inbound.association.spi) old table stepped new new_table
 
--- It asks for an additional child with these selectors of this end's side and of the peer's, under an SPI
+-- It asks for an additional Child SA with these selectors of this end's side and of the peer's, under an SPI
 -- that the table gives.
 pub record AsksFurther (body_of : Keys → Octets → Octets → Octets → Octets) (setup : Setup) (ike : ℕ) (local remote : Selector) (old : Held) (table : Database) (stepped : Stepped) (new : Held) (new_table : Database) : Type 0 where
   pub asks : AsksAt body_of setup ike old stepped new
@@ -82,7 +82,7 @@ pub record RefusesThere (place : ℕ) (old : Held) (o : OrderFault) : Type 0 whe
   pub there : slice_get old.associations place ≡ Some association
   pub refuses : RefusesOrder association o
 
--- the same for an additional child
+-- the same for an additional Child SA
 pub record AsksFurtherThere (body_of : Keys → Octets → Octets → Octets → Octets) (setup : Setup) (place : ℕ) (local remote : Selector) (old : Held) (table : Database) (issued : Issued) (new : Held) (new_table : Database) : Type 0 where
   pub association : Association
   pub there : slice_get old.associations place ≡ Some association
@@ -105,7 +105,7 @@ fault_of_order order.SpisSpent = fault.SpisSpent
 fault_of_order order.TableMemory = fault.Memory child.Table
 fault_of_order order.Memory = fault.Memory child.Message
 
--- there is no such IKE SA, or no additional child can be asked for under it
+-- there is no such IKE SA, or no additional Child SA can be asked for under it
 abbrev pub RefusesFurtherAt : Option Association → Database → IkeFault → Type 0
 RefusesFurtherAt None table reason = reason ≡ fault.Message UnknownAssociation
 RefusesFurtherAt (Some a) table reason = (f : OrderFault) × (RefusesFurther a table f) × (reason ≡ fault_of_order f)
@@ -115,12 +115,12 @@ abbrev pub RefusesAskingAt : Option Association → IkeFault → Type 0
 RefusesAskingAt None reason = reason ≡ fault.Message UnknownAssociation
 RefusesAskingAt (Some a) reason = (o : OrderFault) × (RefusesOrder a o) × (reason ≡ fault_of_order o)
 
--- by the state of the child's pair: one that is being deleted is not deleted again
+-- by the state of the Child SA's pair: one that is being deleted is not deleted again
 abbrev pub RefusesChildBy : State → Option Association → IkeFault → Type 0
 RefusesChildBy Live a reason = RefusesAskingAt a reason
 RefusesChildBy Deleting a reason = reason ≡ fault.Message WrongPhase
 
--- there is no such child, or the state of its IKE SA refuses the command
+-- there is no such Child SA, or the state of its IKE SA refuses the command
 abbrev pub RefusesChild : Option Pair → Held → IkeFault → Type 0
 RefusesChild None old reason = reason ≡ fault.Message UnknownAssociation
 RefusesChild (Some pair) old reason = RefusesChildBy pair.state (association_of pair.ike old.associations) reason

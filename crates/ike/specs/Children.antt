@@ -1,4 +1,4 @@
--- Which messages a child is made of (RFC 7296 sections 1.2, 1.3.1 and 2.17).
+-- Which messages a Child SA is made of (RFC 7296 sections 1.2, 1.3.1 and 2.17).
 use Rattle.std.specs.Prelude.{◌≡◌, ℕ, Some}
 use Rattle.base.specs.Octets.{Octets}
 use Rattle.wire.specs.Messages.{Spells}
@@ -23,7 +23,7 @@ use Rattle.ike.specs.declared.output.IkeOutput.TheVariants as output
 use Rattle.ike.specs.declared.output.MadeChild.{MadeChild}
 use Rattle.ike.specs.declared.output.Stepped.{Stepped}
 
--- the datagram is a message that made this child, of the IKE SA with its serial
+-- the datagram is a message that made this Child SA, of the IKE SA with its serial
 pub record MakesChildOf (meaning : Meaning) (setup : Setup) (octets : Octets) (old : Held) (table : Database) (stepped : Stepped) (made : MadeChild) (new : Held) (new_table : Database) : Type 0 where
   pub message : Message
   pub spelled : Spells message octets
@@ -37,7 +37,7 @@ pub record MakesChildOf (meaning : Meaning) (setup : Setup) (octets : Octets) (o
   pub said : stepped ≡ stepped_of made.ike message.header.id effect
   pub makes : MakesChild meaning setup was table octets message effect made.serial is new_table
 
--- the IKE SA with this serial asks for its first child by these octets
+-- the IKE SA with this serial asks for its first Child SA by these octets
 pub record AsksFirstChild (meaning : Meaning) (setup : Setup) (ike : ℕ) (next : Octets) (new : Held) : Type 0 where
   pub is : Association
   pub stands : association_of ike new.associations ≡ Some is
@@ -55,7 +55,7 @@ pub record AsksNow (ike : ℕ) (stepped : Stepped) : Type 0 where
   pub said : stepped.output ≡ output.Request ike next
   pub keyed : stepped.trace.keyed ≡ Some ike
 
--- the IKE SA with this serial asks for an additional child: its request is sent, and waits for its answer
+-- the IKE SA with this serial asks for an additional Child SA: its request is sent, and waits for its answer
 pub record AsksForFurtherNow (body_of : Keys → Octets → Octets → Octets → Octets) (setup : Setup) (ike : ℕ) (stepped : Stepped) (new : Held) : Type 0 where
   pub number : ℕ
   pub octets : Octets

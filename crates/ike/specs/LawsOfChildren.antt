@@ -1,4 +1,4 @@
--- The children that a step makes, and the answers to offers of IKE SAs and of children.
+-- The Child SAs that a step makes, and the answers to offers of IKE SAs and of children.
 use Rattle.std.specs.FinMap as map
 use Rattle.std.specs.Prelude.{◌≡◌, ◌⊎◌, true, ℕ, List, None, Option, Some}
 use Rattle.base.specs.Octets.{Octets}

@@ -1,4 +1,4 @@
--- The peer's requests: which take effect, what is remembered of them, and how retransmissions are answered;
+-- The peer's requests: which are processed, what is remembered of them, and how retransmissions are answered;
 -- serials.
 use Rattle.std.specs.FinMap as map
 use Rattle.std.specs.Prelude.{◌<◌, ◌≡◌, ◌≤◌, ◌⊎◌, true, ℕ, List, None, Option, Some}

@@ -53,20 +53,20 @@ Tells input stepped serial (TakeEffect number reply) =
 Tells input stepped serial Close = TellsClosed serial stepped.output
 Tells input stepped serial Remove = is_tick input ≡ true
 
--- a response is sent again: it is kept of a request that took effect before, and there is no move beside it
+-- a response is sent again: it is kept of a request that was processed before, and there is no move beside it
 pub record RepeatsReply (moves : List Move) (old : Option Ledger) (said : IkeOutput) (number : ℕ) (octets : Octets) : Type 0 where
   pub kept : KeepsReply old number octets
   pub repeated : said ≡ output.Repeat octets
   pub none : moves ≡ []
 
--- What is sent under this mark is a request that is issued, a response by which a request takes effect, or
+-- What is sent under this mark is a request that is issued, a response by which a request is processed, or
 -- a response that is sent again.
 abbrev pub IsSentBy : List Move → Option Ledger → IkeOutput → Mark → Octets → Type 0
 IsSentBy moves old said mark octets =
     ((mark.response ≡ false) × Contains moves (Issue mark.number octets))
     ⊎ ((mark.response ≡ true) × (Contains moves (TakeEffect mark.number octets) ⊎ RepeatsReply moves old said mark.number octets))
 
--- this end asked for the child, and matches the response; or the peer did, and its request takes effect
+-- this end asked for the Child SA, and matches the response; or the peer did, and its request is processed
 abbrev pub IsMadeBy : List Move → MadeChild → Type 0
 IsMadeBy moves made = ((made.asked ≡ true) × Contains moves (Count made.number)) ⊎ ((made.asked ≡ false) × ((reply : Octets) × Contains moves (TakeEffect made.number reply)))
 
@@ -76,7 +76,7 @@ IsKeyless None = ⊥
 IsKeyless (Some a) = keys_in a.phase ≡ None
 
 -- These moves are complete: they have all that output and trace say of an IKE SA, as it was before the
--- step. That is what is sent under its keys, new keys, a matched response, a child that is made, and its
+-- step. That is what is sent under its keys, new keys, a matched response, a Child SA that is made, and its
 -- end unless it has no keys yet. Beside retransmissions there are no moves, and what is retransmitted under
 -- keys was outstanding.
 pub record SaysNoMore (old : Option Association) (stepped : Stepped) (serial : ℕ) (moves : List Move) : Type 0 where
@@ -88,7 +88,7 @@ pub record SaysNoMore (old : Option Association) (stepped : Stepped) (serial : �
   pub keyed : stepped.trace.keyed ≡ Some serial → (keys : KeyRecord) × Contains moves (Make keys)
   pub counted : (child closed : Option ℕ) → stepped.output ≡ output.Counted serial child closed → (number : ℕ) × Contains moves (Count number)
   pub closed : TellsClosed serial stepped.output → IsKeyless old ⊎ Contains moves Close
-  -- a child is made with the response that is matched, or with the request that takes effect
+  -- a Child SA is made with the response that is matched, or with the request that is processed
   pub child : (made : MadeChild) → stepped.trace.child ≡ Some made → made.ike ≡ serial → IsMadeBy moves made
 
 -- What is asked of a cipher: it opens what it seals with 16 fresh octets, as its law says.
@@ -138,7 +138,7 @@ abbrev pub KeysCome : InputView → Option Association → Type 0
 KeysCome input (Some a) = IsResponseDatagram input
 KeysCome input None = IsInitialDatagram input
 
--- what is matched came as the peer's response, what takes effect as its request, and keys come by
+-- what is matched came as the peer's response, what is processed as its request, and keys come by
 -- IKE_SA_INIT
 abbrev pub MoveComes : Meaning → InputView → Held → ℕ → Move → Type 0
 MoveComes meaning input old serial (Make keys) = KeysCome input (association_of serial old.associations)

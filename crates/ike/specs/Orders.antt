@@ -5,7 +5,7 @@ use Rattle.std.specs.Prelude.{ℕ}
 pub data OrderView : Type 0 where
   -- a liveness check, under the IKE SA with this serial
   Probe : ℕ → OrderView
-  -- a deletion of the child with this serial
+  -- a deletion of the Child SA with this serial
   DeleteChild : ℕ → OrderView
   -- a deletion of the IKE SA with this serial
   DeleteIke : ℕ → OrderView

@@ -1,5 +1,5 @@
--- What comes of a step: its output, which messages were sent under which keys, which keys and which child
--- were made, and by which notice the peer declined what was asked.
+-- What comes of a step: its output, which messages were sent under which keys, which keys and which Child SA
+-- were made, and by which notification the peer declined what was asked.
 use Rattle.std.specs.Prelude.{ℕ, Bool, true, false, Option, Some, None}
 use Rattle.base.specs.Octets.{Octets}
 use Rattle.effects.specs.declared.taking.Effect.{Effect}
@@ -36,7 +36,7 @@ abbrev pub closed_serial : ℕ → Bool → Option ℕ
 closed_serial ike true = Some ike
 closed_serial ike false = None
 
--- the child that a request with this Message ID asked for, at this end or at the other
+-- the Child SA that a request with this Message ID asked for, at this end or at the other
 abbrev pub child_of : ℕ → ℕ → Bool → Option ℕ → Option MadeChild
 child_of ike number asked (Some serial) = Some (record { serial = serial; ike = ike; number = number; asked = asked })
 child_of ike number asked None = None

@@ -62,7 +62,7 @@ is_answered_phase octets _ = false
 abbrev pub is_answered : Octets → Association → Bool
 is_answered octets a = is_answered_phase octets a.phase
 
--- the kept response of the IKE SA at this place is sent again
+-- the cached response of the IKE SA at this place is sent again
 pub record Repeats (place : ℕ) (associations : List Association) (stepped : Stepped) : Type 0 where
   pub association : Association
   pub there : slice_get associations place ≡ Some association
@@ -70,7 +70,7 @@ pub record Repeats (place : ℕ) (associations : List Association) (stepped : St
   pub kept : kept_reply association.phase ≡ Some reply
   pub said : stepped ≡ plain_step (Repeat reply)
 
--- a notice answers the request
+-- a notification answers the request
 pub record SaysNotice (spi_i : ℕ) (notice : Notice) (stepped : Stepped) : Type 0 where
   pub octets : Octets
   pub spelled : SpellsPlainly (notice_message spi_i notice) octets
@@ -188,7 +188,7 @@ pub record RefusesOffer (meaning : Meaning) (setup : Setup) (cookies : CookieSec
   pub judged : IsJudged meaning cookies old from m (Accepted offer)
   pub why : CannotMake old setup.fresh.spi reason
 
--- for want of memory, or as an offer
+-- on allocation failure, or as an offer
 abbrev pub RefusesNew : Meaning → Setup → CookieSecrets → Octets → Message → Held → IkeFault → Type 0
 RefusesNew meaning setup cookies from m old (fault.Memory f) = f ≡ child.Message
 RefusesNew meaning setup cookies from m old reason = RefusesOffer meaning setup cookies from m old reason
@@ -206,7 +206,7 @@ pub record RefusesInitial (meaning : Meaning) (setup : Setup) (cookies : CookieS
 abbrev pub CanWantMemory : Octets → Type 0
 CanWantMemory octets = (f : WireFault) → IsFaultOf octets f → fault_offset f ≢ None
 
--- a child may be made of the message at the IKE SA at this place, and this is what making it may have no
+-- a Child SA may be made of the message at the IKE SA at this place, and this is what making it may have no
 -- memory for
 pub record MakesChildAt (plain_of : Opening) (place : ℕ) (octets : Octets) (m : Message) (old : Held) (table : Database) (f : MemoryFault) : Type 0 where
   pub association : Association
@@ -219,7 +219,7 @@ abbrev pub WantsFound : Opening → Result ℕ MessageFault → Octets → Messa
 WantsFound plain_of (Ok place) octets m old table f = (f ≡ child.Message) ⊎ MakesChildAt plain_of place octets m old table f
 WantsFound plain_of (Err fault) octets m old table f = ⊥
 
--- the octets are a message of which an IKE SA may make a child, and this is what that may have no memory
+-- the octets are a message of which an IKE SA may make a Child SA, and this is what that may have no memory
 -- for
 pub record WantsForChild (plain_of : Opening) (octets : Octets) (old : Held) (table : Database) (f : MemoryFault) : Type 0 where
   pub message : Message
@@ -229,7 +229,7 @@ pub record WantsForChild (plain_of : Opening) (octets : Octets) (old : Held) (ta
   pub finds : place_meant message.header old.associations ≡ Ok place
   pub makes : MakesChildAt plain_of place octets message old table f
 
--- why a datagram is refused: no memory for the message or for a child, or an offer of which no IKE SA can
+-- why a datagram is refused: no memory for the message or for a Child SA, or an offer of which no IKE SA can
 -- be made
 abbrev pub RefusesDatagram : Meaning → Setup → CookieSecrets → Octets → Octets → Held → Database → IkeFault → Type 0
 RefusesDatagram meaning setup cookies from octets old table (fault.Memory f) = CanWantMemory octets × ((f ≡ child.Message) ⊎ WantsForChild meaning.plain_of octets old table f)

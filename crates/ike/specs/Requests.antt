@@ -36,7 +36,7 @@ abbrev pub OpensAsRequest : Meaning → InputView → Association → ℕ → Ty
 OpensAsRequest meaning (Datagram from octets fresh) a number = (exchange : ℕ) × OpensAs meaning.plain_of a octets exchange number
 OpensAsRequest meaning input a number = ⊥
 
--- it is a new one, which takes effect if it comes
+-- it is a new one, which is processed if it comes
 abbrev pub IsNewRequest : Meaning → InputView → Association → ℕ → Type 0
 IsNewRequest meaning (Datagram from octets fresh) a number = IsNew meaning.plain_of a octets number
 IsNewRequest meaning input a number = ⊥
@@ -70,7 +70,7 @@ pub record IsAdmitted (input : InputView) (opened : HalfOpen) (stepped : Stepped
   pub request : IsOfOctets input opened.request
   pub said : stepped.output ≡ Reply opened.reply None
 
--- at some IKE SA some request took effect at this step
+-- at some IKE SA some request was processed at this step
 pub record PutsOneIntoEffect (old new : Held) : Type 0 where
   pub serial : ℕ
   pub number : ℕ

@@ -29,7 +29,7 @@ At held place a = slice_get held.associations place ≡ Some a
 
 -- What holds of each IKE SA. Its serial was given, and this end's SPI is not zero. One that waits for a
 -- response to IKE_SA_INIT or to IKE_AUTH has this end as initiator, one that waits for the request of
--- IKE_AUTH as responder. The SPIs that it holds for children are reserved, each for one child. All that it
+-- IKE_AUTH as responder. The SPIs that it holds for Child SAs are reserved, each for one child. All that it
 -- can send again has at most 3000 octets. What is kept of the peer's requests satisfies its invariant, and
 -- what is outstanding belongs to the phase. A half-open one was asked for by IKE_SA_INIT. Its keys have 32
 -- octets each.
@@ -61,7 +61,7 @@ pub record AreSound (held : Held) (table : Database) : Type 0 where
   pub each : (place : ℕ) (a : Association) → At held place a → IsSound a held.next table
   pub apart : (place later : ℕ) (a other : Association) → place < later → At held place a → At held later other → AreApart a other
 
--- an IKE SA asked for the children that it waits for, first and additional ones, with ESN only where that
+-- an IKE SA asked for the Child SAs that it waits for, first and additional ones, with ESN only where that
 -- is configured
 pub record AsksAsAllowed (extended : Bool) (a : Association) : Type 0 where
   pub first : (child : AskedChildView) → first_asked a.phase ≡ Some child → child.extended ≡ true → extended ≡ true
@@ -71,13 +71,13 @@ pub record AsksAsAllowed (extended : Bool) (a : Association) : Type 0 where
 abbrev pub AskAsAllowed : Bool → Held → Type 0
 AskAsAllowed extended held = (serial : ℕ) (a : Association) → association_of serial held.associations ≡ Some a → AsksAsAllowed extended a
 
--- and the configuration is a valid one, under which all children were asked for
+-- and the configuration is a valid one, under which all Child SAs were asked for
 pub record IsSoundMachine (machine : Machine) (table : Database) : Type 0 where
   pub held : AreSound machine.held table
   pub config : IsConfig machine.config
   pub asks : AskAsAllowed machine.config.extended machine.held
 
--- an IKE SA holds the SPI, for a child that it asked for
+-- an IKE SA holds the SPI, for a Child SA that it asked for
 pub record HoldsReservation (associations : List Association) (spi : ℕ) : Type 0 where
   pub place : ℕ
   pub association : Association

@@ -1,4 +1,4 @@
--- The command to ask for a child, with a new IKE SA or under an established one (RFC 7296 sections 1.2 and
+-- The command to ask for a Child SA, with a new IKE SA or under an established one (RFC 7296 sections 1.2 and
 -- 1.3.1).
 use Rattle.std.specs.Prelude.{◌⊎◌, ◌≡◌, ◌==◌, ◌<◌, ℕ, Bool, Option, Some, None, List, length, slice_get, nat_le, if◌then◌else◌}
 use Rattle.policy.specs.Decisions.{local_side, remote_side}
@@ -50,7 +50,7 @@ beginning_fault_of (Some entry) old spi = new_association_fault old spi
 abbrev pub beginning_fault : List Entry → ℕ → Fresh → Held → Option IkeFault
 beginning_fault entries place fresh old = beginning_fault_of (protecting_entry entries place) old fresh.spi
 
--- the child that is asked for by an entry, with all selectors of both its sides
+-- the Child SA that is asked for by an entry, with all selectors of both its sides
 abbrev pub child_by : Entry → ℕ → Bool → AskedChildView
 child_by entry spi extended = record { spi = spi; local = local_side entry; remote = remote_side entry; extended = extended }
 
@@ -61,7 +61,7 @@ pub record IsAllowed (entries : List Entry) (place : ℕ) (fresh : Fresh) (old :
   pub next : serial ≡ old.next
   pub left : old.next < SERIAL_END
 
--- The table has a place and an SPI left. The next SPI is reserved for the child, and the first request is
+-- The table has a place and an SPI left. The next SPI is reserved for the Child SA, and the first request is
 -- sent.
 pub record BeginsNext (entry : Entry) (extended : Bool) (beginning : Beginning) (old : Held) (table : Database) (stepped : Stepped) (new : Held) (new_table : Database) : Type 0 where
   pub not_full : ¬ IsFull table
@@ -80,14 +80,14 @@ pub record BeginsBy (meaning : Meaning) (setup : Setup) (place : ℕ) (old : Hel
   pub room : IsAsBefore table between
   pub done : BeginsNext entry setup.config.extended beginning old between stepped new new_table
 
--- the IKE SA with this serial asks for an additional child by an entry, with all selectors of both its
+-- the IKE SA with this serial asks for an additional Child SA by an entry, with all selectors of both its
 -- sides (section 1.3.1)
 pub record FurthersBy (meaning : Meaning) (setup : Setup) (ike place : ℕ) (old : Held) (table : Database) (stepped : Stepped) (new : Held) (new_table : Database) : Type 0 where
   pub entry : Entry
   pub protects : protecting_entry setup.entries place ≡ Some entry
   pub asks : AsksFurther meaning.body_of setup ike (local_side entry) (remote_side entry) old table stepped new new_table
 
--- a child is asked for with a new IKE SA, or by the one with this serial
+-- a Child SA is asked for with a new IKE SA, or by the one with this serial
 abbrev pub Starts : Meaning → Setup → Option ℕ → ℕ → Held → Database → Stepped → Held → Database → Type 0
 Starts meaning setup None place old table stepped new new_table = BeginsBy meaning setup place old table stepped new new_table
 Starts meaning setup (Some ike) place old table stepped new new_table = FurthersBy meaning setup ike place old table stepped new new_table
@@ -100,13 +100,13 @@ GivesNoSpi table fault.SpisSpent = (¬ IsFull table) × IsSpent table
 GivesNoSpi table (fault.Memory f) = (¬ IsFull table) × (¬ IsSpent table) × ((f ≡ child.Message) ⊎ ((f ≡ child.Table) × (table.room ≡ 0)))
 GivesNoSpi table reason = ⊥
 
--- why no IKE SA is begun: as above; or since the table gives no SPI, or for want of memory
+-- why no IKE SA is begun: as above; or since the table gives no SPI, or on allocation failure
 abbrev pub RefusesBeginning : List Entry → Fresh → ℕ → Held → Database → IkeFault → Type 0
 RefusesBeginning entries fresh place old table reason =
     (beginning_fault entries place fresh old ≡ Some reason)
     ⊎ ((beginning_fault entries place fresh old ≡ None) × GivesNoSpi table reason)
 
--- why no additional child is asked for: no entry protects, or the IKE SA with this serial refuses it
+-- why no additional Child SA is asked for: no entry protects, or the IKE SA with this serial refuses it
 abbrev pub RefusesFurtherBy : Option Entry → ℕ → Held → Database → IkeFault → Type 0
 RefusesFurtherBy None ike old table reason = reason ≡ fault.Unprotected
 RefusesFurtherBy (Some entry) ike old table reason = RefusesFurtherAt (association_of ike old.associations) table reason

@@ -39,7 +39,7 @@ pub record AnswersKeepToOffers (octets : Octets) (fresh : Fresh) (it : StepCase)
 
 -- What holds of a step that took a datagram.
 pub record KeepsLawsOfDatagrams (from octets : Octets) (fresh : Fresh) (it : StepCase) : Type 0 where
-  -- a child is made of what its exchange's two messages say, under the association's keys (sections 1.2,
+  -- a Child SA is made of what its exchange's two messages say, under the IKE SA's keys (sections 1.2,
   -- 1.3.1, 2.9 and 2.17)
   pub made : (made : MadeChild) → it.stepped.trace.child ≡ Some made
       → MakesChildOf it.meaning (setup_at it.old it.entries fresh) octets it.old.held it.table it.stepped made it.new.held it.new_table
@@ -56,7 +56,7 @@ pub record KeepsLawsOfDatagrams (from octets : Octets) (fresh : Fresh) (it : Ste
 
 -- What holds of a step.
 pub record KeepsLaws (it : StepCase) : Type 0 where
-  -- of each association with keys: at most two moves, and nothing is told beside them
+  -- of each IKE SA with keys: at most two moves, and nothing is told beside them
   pub moves : (serial : ℕ) → MovesAt it.meaning it.input it.old.held it.stepped it.new.held serial
   -- who is established was so before this step under the same keys, or proves the configured peer's identity
   -- now (section 2.15)
@@ -65,10 +65,10 @@ pub record KeepsLaws (it : StepCase) : Type 0 where
       → WasKnown it.meaning it.entries it.input it.old ike keys
   -- what the trace names came now, and the keys and the pair that came are named
   pub traced : IsTraced it.old.held it.table it.stepped it.new.held it.new_table
-  -- what goes out and isn't named is in clear: of an association without keys, or an answer to IKE_SA_INIT
+  -- what goes out and isn't named is in clear: of an IKE SA without keys, or an answer to IKE_SA_INIT
   pub clear : (octets : Octets) → it.stepped.trace.sent ≡ None → octets_in it.stepped.output ≡ Some octets
       → IsInClear it.old.held it.stepped.trace.keyed it.new.held it.stepped.output
-  -- but for a moment one association is changed, and pairs of no other
+  -- but for a tick one IKE SA is changed, and pairs of no other
   pub one : is_tick it.input ≡ false → ChangesOne it.old.held it.new.held it.table it.new_table
   pub few_selectors : (made : MadeChild) (pair : Pair) → it.stepped.trace.child ≡ Some made
       → pair_at it.new_table.pairs made.serial ≡ Some pair → HasFewSelectors pair

@@ -25,8 +25,8 @@ pub record TakesMoment (moment : ℕ) (old : Machine) (table : Database) (steppe
   pub takes : TakesHeld (max old.moment moment) old.held table new.held new_table stepped
   pub content : new ≡ record old { moment = max old.moment moment; held = new.held }
 
--- refused for want of memory alone, for its output, and only where something is due at the IKE SAs that are
--- held
+-- refused on allocation failure alone, for its output, and only where something is due at the IKE SAs that
+-- are held
 abbrev pub RefusesMoment : ℕ → List Association → IkeFault → Type 0
 RefusesMoment now associations (fault.Memory f) = (f ≡ child.Message) × SomethingComes now associations
 RefusesMoment now associations reason = ⊥

@@ -29,7 +29,7 @@ pub record GetsKeys (old new : Held) (serial : ℕ) : Type 0 where
   pub none : keys_of_serial serial old.associations ≡ None
   pub holds : HoldsKeys new serial
 
--- a child is new, of an IKE SA that is held and has keys: its pair, with no number sent or taken, has the
+-- a Child SA is new, of an IKE SA that is held and has keys: its pair, with no number sent or taken, has the
 -- next serial
 pub record HoldsChild (table : Database) (made : MadeChild) (held : Held) (new_table : Database) : Type 0 where
   pub keyed : HoldsKeys held made.ike
@@ -39,14 +39,14 @@ pub record HoldsChild (table : Database) (made : MadeChild) (held : Held) (new_t
   pub there : pair_at new_table.pairs made.serial ≡ Some pair
   pub unused : IsUnused made.ike pair
 
--- the trace names the child with this serial
+-- the trace names the Child SA with this serial
 pub record NamesChild (stepped : Stepped) (serial : ℕ) : Type 0 where
   pub made : MadeChild
   pub named : stepped.trace.child ≡ Some made
   pub same : made.serial ≡ serial
 
 -- The trace is right and complete. What was sent under keys has octets, and is of an IKE SA that has them.
--- The keys and the child that are named are new. All that is new is named: keys that an IKE SA did not
+-- The keys and the Child SA that are named are new. All that is new is named: keys that an IKE SA did not
 -- have, and a pair that was not in the table. A pair that was there may be Deleting now.
 pub record IsTraced (old : Held) (table : Database) (stepped : Stepped) (new : Held) (new_table : Database) : Type 0 where
   pub octets : (mark : Mark) → stepped.trace.sent ≡ Some mark → IsSome (octets_in stepped.output)

@@ -21,7 +21,7 @@ use setup::Setup;
 use std::alloc::Global;
 use suite::Sealer;
 
-// Asks the peer to delete a child. Its pair stops sending at once, and is removed when the peer answers
+// Asks the peer to delete a Child SA. Its pair stops sending at once, and is removed when the peer answers
 // (RFC 7296, section 1.4.1).
 pub(crate) fn delete_child<C: Sealer>(
     alloc: Global,
@@ -95,7 +95,7 @@ fn ask_at<C: Sealer>(
     Ok(issued)
 }
 
-// Asks the peer of the IKE SA with this serial for an additional child, with these selectors of this end's
+// Asks the peer of the IKE SA with this serial for an additional Child SA, with these selectors of this end's
 // side and of the peer's.
 pub(crate) fn ask_further<C: Sealer>(
     alloc: Global,

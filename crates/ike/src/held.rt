@@ -57,7 +57,7 @@ impl Held {
         u32::try_from(self.next).ok()
     }
 
-    /// Adds the IKE SA that has the next serial. An error is for want of memory, and changes nothing.
+    /// Adds the IKE SA that has the next serial. An error is an allocation failure, and changes nothing.
     pub fn push(&mut self, association: Association) -> Result<(), AllocError>
         requires { self.old.next < SERIAL_END }
         ensures pushed { IfOk result (λ _. self.new ≡ with_next self.old association) }

@@ -12,7 +12,7 @@ pub enum IkeInput<'a> {
         fresh: &'a Fresh,
     },
     /// Command: ask the peer for a Child SA by an entry of the policy, counted from 0. Where `ike` is none,
-    /// with a new IKE SA; otherwise an additional child of the IKE SA with this serial (RFC 7296, section
+    /// with a new IKE SA; otherwise an additional Child SA of the IKE SA with this serial (RFC 7296, section
     /// 1.3.1).
     Start {
         ike: Option<u32>,
@@ -31,7 +31,7 @@ pub enum IkeInput<'a> {
         child: u32,
         fresh: &'a Fresh,
     },
-    /// Command: delete the IKE SA with this serial and all its children. The peer's answer closes it (RFC
+    /// Command: delete the IKE SA with this serial and all its Child SAs. The peer's answer closes it (RFC
     /// 7296, section 1.4.1).
     DeleteIke {
         ike: u32,

@@ -4,7 +4,7 @@
 //! A step asks, in this order: which IKE SA a message is for, what it is to that IKE SA ([`association`]),
 //! and what its payloads do ([`effects`], over [`initial`], [`informational`] and [`create_child`]). A
 //! command begins an IKE SA, or asks the peer something under one that is established: for an additional
-//! child ([`IkeInput::Start`]), for a sign of life, or to delete a child or the IKE SA. All that can be
+//! Child SA ([`IkeInput::Start`]), for a sign of life, or to delete a child or the IKE SA. All that can be
 //! refused is made before anything changes. Beside its output a step has a [`Trace`]: which message was sent
 //! under which keys, and which keys and which child were made. The code's word for an IKE SA is
 //! *association*, for a command *order*, for a time *moment*.
@@ -24,7 +24,7 @@
 //!
 //! - at most 128 IKE SAs are held, by rising serial, and at most 32 of them are half open;
 //! - each has an SPI of this end that is not zero and no other's;
-//! - each SPI that one holds for a child still to come is reserved in the table, and none is held twice.
+//! - each SPI that one holds for a Child SA still to come is reserved in the table, and none is held twice.
 //!
 //! That a step keeps it follows from what a step *is*, the relation `Steps`, and not from the code.
 //! `proofs/WayLemmas` names the ways of a step: nothing changes, an IKE SA takes a message, is admitted,

@@ -34,7 +34,7 @@ use suite::{Agreement, KeyRecord, Proof, Sealer};
 
 /// The IKE machine of one end: its IKE SAs with one peer, of which it holds at most 128.
 ///
-/// The SPIs that an IKE SA holds for children that it asked for are reserved in the table that every step
+/// The SPIs that an IKE SA holds for Child SAs that it asked for are reserved in the table that every step
 /// gets. It must always be the same table.
 #[derive(Drop)]
 pub struct Ike {
@@ -92,11 +92,11 @@ impl Ike {
     /// request, gives one up, or removes an IKE SA that expires. None where no time of 64 bits does. Takes
     /// no memory.
     ///
-    /// Before it a moment changes nothing
+    /// Before it a tick changes nothing
     /// ([`nothing_comes_before_the_next_moment`](crate::laws::nothing_comes_before_the_next_moment)), and
     /// this one does something, where memory doesn't run out
     /// ([`the_next_moment_brings_something`](crate::laws::the_next_moment_brings_something)). It lies after
-    /// the greatest moment so far, where nothing is due that this one has reached
+    /// the greatest time so far, where nothing is due that this one has reached
     /// ([`what_is_due_comes_in_time`](crate::laws::what_is_due_comes_in_time)).
     pub fn next_moment(&self) -> Option<u64>
         ensures early { NothingIsDueBefore result self.now.held.associations }
@@ -111,15 +111,15 @@ impl Ike {
     ///
     /// A datagram is dropped ([`IkeOutput::Dropped`]) by E1 to E9 where it is no well-formed message, by
     /// E28 to E33, or by E34. It is refused (`Err`) by [`IkeFault::NumbersSpent`] or [`IkeFault::BadFresh`]
-    /// where it would make an IKE SA, and for want of memory. A datagram whose length, length field or
+    /// where it would make an IKE SA, and on allocation failure. A datagram whose length, length field or
     /// version is wrong is never refused.
     ///
-    /// A command to ask for a child is refused by the first of these:
+    /// A command to ask for a Child SA is refused by the first of these:
     ///
     /// What is refused changes nothing but the table's room. Beside what each input does (`stepped`), `laws`
     /// says what every step keeps to: its moves, who is established, what the trace names and what goes in
-    /// clear, of what a child is made, what an answer may hold, that one association is changed but for a
-    /// moment, and that under load no datagram makes a half-open one without a right cookie.
+    /// clear, of what a child is made, what an answer may hold, that one IKE SA is changed but for a
+    /// tick, and that under load no datagram makes a half-open one without a right cookie.
     pub fn step<C: Sealer + Agreement + Proof>(
         &mut self,
         alloc: Global,

@@ -7,17 +7,17 @@ use base::Items;
 use effects::Effect;
 use moments::Ticked;
 
-/// What comes of a step. IKE SAs and children are named by their serials.
+/// What comes of a step. IKE SAs and Child SAs are named by their serials.
 #[derive(Debug, Drop, PartialEq, Eq)]
 pub enum IkeOutput {
-    /// A request of the peer is answered for the first time, by these octets. It took effect, or it is one
-    /// of IKE_SA_INIT that gets a notice alone, such as a cookie.
+    /// A request of the peer is answered for the first time, by these octets. It was processed, or it is one
+    /// of IKE_SA_INIT that gets a notification alone, such as a cookie.
     Reply {
         octets: Items<u8>,
         /// The IKE SA that the request closed, if it did.
         closed: Option<u32>,
     },
-    /// The peer retransmitted a request that took effect before; these are the octets of the first
+    /// The peer retransmitted a request that was processed before; these are the octets of the first
     /// response.
     Repeat(Items<u8>),
     /// A request of this end is to be sent: for the first time, or that of IKE_SA_INIT again with a cookie.
@@ -28,7 +28,7 @@ pub enum IkeOutput {
     /// A response was matched to its request, which waits no more.
     Counted {
         ike: u32,
-        /// The child that it made, if one.
+        /// The Child SA that it made, if one.
         child: Option<u32>,
         /// The IKE SA that it closed, if it did.
         closed: Option<u32>,
@@ -50,7 +50,7 @@ pub struct Mark {
     pub number: u32,
 }
 
-/// A child that was made.
+/// A Child SA that was made.
 #[derive(Clone, Copy, Debug, PartialEq, Eq)]
 pub struct MadeChild {
     pub serial: u32,
@@ -69,11 +69,11 @@ pub struct Trace {
     /// The IKE SA whose keys it made.
     pub keyed: Option<u32>,
     pub child: Option<MadeChild>,
-    /// The notice by which the peer declined what this end had asked of it: the type of the first error
-    /// notice, one below 16384, in a response that was counted (RFC 7296, section 3.10.1), where no child was
-    /// made of that. So it is 38 for TS_UNACCEPTABLE, 35 for NO_ADDITIONAL_SAS, 14 for NO_PROPOSAL_CHOSEN, 7
-    /// for INVALID_SYNTAX, and 24 for AUTHENTICATION_FAILED. `None` where the response has no such notice or
-    /// is not in the grammar, and in every other step.
+    /// The notification by which the peer declined what this end had asked of it: the type of the first error
+    /// notification, one below 16384, in a response that was matched (RFC 7296, section 3.10.1), where no
+    /// Child SA was made of that. So it is 38 for TS_UNACCEPTABLE, 35 for NO_ADDITIONAL_SAS, 14 for
+    /// NO_PROPOSAL_CHOSEN, 7 for INVALID_SYNTAX, and 24 for AUTHENTICATION_FAILED. `None` where the response
+    /// has no such notification or is not in the grammar, and in every other step.
     pub declined: Option<u16>,
 }
 

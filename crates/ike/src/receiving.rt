@@ -66,7 +66,7 @@ pub(crate) fn take_datagram<C: Sealer + Agreement + Proof>(
     }
 }
 
-// The message is for an association that is held, or for none.
+// The message is for an IKE SA that is held, or for none.
 fn take_found<C: Sealer + Agreement + Proof>(
     alloc: Global,
     setup: &Setup<'_, C>,
@@ -147,7 +147,7 @@ fn take_initial<C: Sealer + Agreement + Proof>(
     }
 }
 
-// Sends the kept response of the IKE SA at this place again.
+// Sends the cached response of the IKE SA at this place again.
 fn repeat(
     alloc: Global,
     request: &[u8],
@@ -201,7 +201,7 @@ fn take_new<C: Sealer + Agreement + Proof>(
     }
 }
 
-// Answers by a notice, and keeps nothing.
+// Answers by a notification, and keeps nothing.
 fn decline(alloc: Global, spi_i: u64, notice: &Notice) -> Result<Stepped, AllocError>
     ensures { IfOk result (SaysNotice spi_i notice.now) }
 {

@@ -1,4 +1,4 @@
-//! The command to ask for a child, with a new IKE SA or under one that is established.
+//! The command to ask for a Child SA, with a new IKE SA or under one that is established.
 ghost use Rattle.std.specs.Prelude.{◌≡◌, ◌<◌, Some, None, IfOk, IfErr};
 ghost use Rattle.policy.specs.Decisions.{local_side, remote_side};
 ghost use Rattle.policy.specs.Entries.{IsSoundEntry};
@@ -22,7 +22,7 @@ use setup::Setup;
 use std::alloc::{AllocError, Global};
 use suite::{Agreement, Proof, Sealer};
 
-// Asks for the child of an entry of the policy, by its number: with a new IKE SA, or under the one with
+// Asks for the Child SA of an entry of the policy, by its number: with a new IKE SA, or under the one with
 // this serial.
 pub(crate) fn start<C: Sealer + Agreement + Proof>(
     alloc: Global,
@@ -45,7 +45,7 @@ pub(crate) fn start<C: Sealer + Agreement + Proof>(
     }
 }
 
-// Begins an IKE SA whose first child is that of an entry.
+// Begins an IKE SA whose first Child SA is that of an entry.
 fn begin_by<C: Sealer + Agreement + Proof>(
     alloc: Global,
     setup: &Setup<'_, C>,
@@ -73,7 +73,7 @@ fn begin_by<C: Sealer + Agreement + Proof>(
     )?)
 }
 
-// Asks for the child of an entry under the IKE SA with this serial.
+// Asks for the Child SA of an entry under the IKE SA with this serial.
 fn further_by<C: Sealer + Agreement + Proof>(
     alloc: Global,
     setup: &Setup<'_, C>,
@@ -95,7 +95,7 @@ fn further_by<C: Sealer + Agreement + Proof>(
     ask_further(alloc, setup, held, table, ike, &local, &remote)
 }
 
-// An IKE SA that may be begun: its serial, and the entry of its first child.
+// An IKE SA that may be begun: its serial, and the entry of its first Child SA.
 #[derive(Clone, Copy)]
 struct Allowed {
     serial: u32,
@@ -165,7 +165,7 @@ fn new_serial(held: &Held, spi: u64) -> Result<u32, IkeFault>
     Ok(serial)
 }
 
-// Makes room in the table for the child.
+// Makes room in the table for the Child SA.
 #[tactic(auto, using(crate::proofs::WantLemmas::withheld))]
 fn prepare(table: &mut Table) -> Result<(), IkeFault>
     ensures ready { IfOk result (λ _. IsReady table.new) }
@@ -177,7 +177,8 @@ fn prepare(table: &mut Table) -> Result<(), IkeFault>
     Ok(())
 }
 
-// Reserves the child's SPI, and stores the IKE SA. An error is for want of memory, and changes nothing.
+// Reserves the Child SA's SPI, and stores the IKE SA. An error is an allocation failure, and changes
+// nothing.
 fn begin_next(
     alloc: Global,
     held: &mut Held,

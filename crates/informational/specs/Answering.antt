@@ -1,4 +1,4 @@
--- The answer to a request of INFORMATIONAL, and what becomes of the association and of its pairs (RFC 7296
+-- The answer to a request of INFORMATIONAL, and what becomes of the IKE SA and of its SA pairs (RFC 7296
 -- sections 1.4, 1.4.1, 2.5 and 2.21.3).
 use Rattle.std.specs.Prelude.{◌≡◌, ℕ, Option, Some, None, List, []}
 use Rattle.base.specs.Octets.{Octets}
@@ -25,14 +25,14 @@ use Rattle.deletions.specs.declared.deciding.Verdict.{Verdict}
 use Rattle.deletions.specs.declared.deciding.Verdict.TheVariants as verdict
 use Rattle.informational.specs.Orders.{ClosesIf}
 
--- the pairs that go by a verdict
+-- the SA pairs that go by a verdict
 abbrev pub gone_by : Verdict → List ℕ
 gone_by verdict.BadSyntax = []
 gone_by (verdict.Unsupported kind) = []
 gone_by verdict.Closes = []
 gone_by (verdict.Deletes deleted) = deleted.serials
 
--- The request takes effect: it is answered, the answer is kept, and the association is closed, or the pairs
+-- The request is processed: it is answered, the response is cached, and the IKE SA is closed, or the SA pairs
 -- that are named go.
 pub record AnswersInformational (body_of : Keys → Octets → Octets → Octets → Octets) (setup : Setup) (old : Association) (table : Database) (number : ℕ) (plain : Plain) (answer : Answered) (new : Association) (new_table : Database) : Type 0 where
   pub keys : KeyRecord
@@ -48,7 +48,7 @@ pub record AnswersInformational (body_of : Keys → Octets → Octets → Octets
   pub closed : answer.closed ≡ is_closing_verdict (verdict_on table.pairs old.serial payloads)
   pub concluded : ClosesIf (is_closing_verdict (verdict_on table.pairs old.serial payloads)) (gone_by (verdict_on table.pairs old.serial payloads)) (with_incoming old incoming) table setup.moment new new_table
 
--- The request takes effect at an established association. Elsewhere nothing is done.
+-- The request is processed at an established IKE SA. Elsewhere nothing is done.
 abbrev pub AnswersWhereEstablished : (Keys → Octets → Octets → Octets → Octets) → Setup → Association → Database → ℕ → Plain → Option Answered → Association → Database → Type 0
 AnswersWhereEstablished body_of setup old table number plain None new new_table = (¬ IsEstablished old.phase) × (new ≡ old) × (new_table ≡ table)
 AnswersWhereEstablished body_of setup old table number plain (Some answer) new new_table = AnswersInformational body_of setup old table number plain answer new new_table

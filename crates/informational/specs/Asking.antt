@@ -1,4 +1,4 @@
--- A request of INFORMATIONAL: whether the peer is there, or that a child or the association is deleted (RFC
+-- A request of INFORMATIONAL: whether the peer is there, or that a Child SA or the IKE SA is deleted (RFC
 -- 7296 sections 1.4, 1.4.1 and 2.4).
 use Rattle.std.specs.Prelude.{◌≡◌, ℕ, false, List}
 use Rattle.base.specs.Octets.{Octets}
@@ -20,8 +20,8 @@ use Rattle.informational.specs.Ordering.{payloads_of_order, purpose_of}
 use Rattle.informational.specs.declared.ordering.Order.{Order}
 use Rattle.association.specs.Sending.{request_message}
 
--- The request goes out under the next number, and waits for its answer. None goes out while one to delete
--- the association waits for its own.
+-- The request goes out under the next Message ID, and waits for its answer. None goes out while one to delete
+-- the IKE SA waits for its own.
 pub record Asks (body_of : Keys → Octets → Octets → Octets → Octets) (setup : Setup) (order : Order) (old : Association) (octets : Octets) (new : Association) : Type 0 where
   pub keys : KeyRecord
   pub established : old.phase ≡ phase.Established keys

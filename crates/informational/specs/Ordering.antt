@@ -8,7 +8,7 @@ use Rattle.deletions.specs.Asking.{association_deletion, child_deletion}
 use Rattle.informational.specs.declared.ordering.Order.{Order}
 use Rattle.informational.specs.declared.ordering.Order.TheVariants.{Probe, DeleteChild, DeleteAssociation}
 
--- the payloads of the request; a child is named by the SPI under which this end receives
+-- the payloads of the request; a Child SA is named by the SPI under which this end receives
 abbrev pub payloads_of_order : Order → List Payload
 payloads_of_order Probe = []
 payloads_of_order (DeleteChild child spi) = child_deletion spi
@@ -20,7 +20,7 @@ purpose_of Probe = purpose.Probe
 purpose_of (DeleteChild child spi) = purpose.DeleteChild child
 purpose_of DeleteAssociation = purpose.DeleteAssociation
 
--- a child that is to be deleted is there, and Live
+-- a Child SA that is to be deleted is there, and Live
 abbrev pub IsOfLive : Order → PairMap → Type 0
 IsOfLive Probe pairs = Unit {0}
 IsOfLive (DeleteChild child spi) pairs = IsLive pairs child

@@ -26,18 +26,18 @@ use suite::{KeyRecord, Sealer};
 use wire::Message;
 use wire::numbers::INFORMATIONAL;
 
-/// Answers a request of INFORMATIONAL at an established association (RFC 7296, sections 1.4 and 1.4.1), by
-/// the payloads that it opened to and what [`deletions::decide`] makes of them.
+/// Answers a request of INFORMATIONAL at an established IKE SA (RFC 7296, sections 1.4 and 1.4.1), by the
+/// payloads that it opened to and what [`deletions::decide`] makes of them.
 ///
-/// The answer is INVALID_SYNTAX, and the association is closed, where the payloads are not in the grammar
-/// or name more than 512 SPIs; it is UNSUPPORTED_CRITICAL_PAYLOAD where one that is not known is marked as
-/// critical (section 2.5). Where the association is deleted it is closed, and the answer is empty.
-/// Otherwise the Live pairs that are named go, and the answer names the SPIs of the other direction; it is
-/// empty where none goes. A pair that is Deleting stays until the request of this end is answered, and
-/// isn't named. It is `None`, and nothing is changed, where the association is not established.
+/// The answer is INVALID_SYNTAX, and the IKE SA is closed, where the payloads are not in the grammar or name
+/// more than 512 SPIs; it is UNSUPPORTED_CRITICAL_PAYLOAD where one that is not known is marked as critical
+/// (section 2.5). Where the IKE SA is deleted it is closed, and the answer is empty. Otherwise the Live SA
+/// pairs that are named go, and the answer names the SPIs of the other direction; it is empty where none
+/// goes. A pair that is Deleting stays until the request of this end is answered, and isn't named. It is
+/// `None`, and nothing is changed, where the IKE SA is not established.
 ///
-/// The caller asks only where the request is fresh and the SPIs that the association holds are reserved in
-/// the table. An error is for want of memory alone, and changes nothing.
+/// The caller asks only where the request is fresh and the SPIs that the IKE SA holds are reserved in the
+/// table. The only error is an allocation failure, and it changes nothing.
 pub fn answer<C: Sealer>(
     alloc: Global,
     setup: &Setup<'_, C>,
@@ -101,7 +101,7 @@ fn make_reply<C: Sealer>(
     sealed_message(alloc, setup.caller, role, keys, &message, &setup.fresh.seal)
 }
 
-// The association is closed, or the pairs go that a request names.
+// The IKE SA is closed, or the SA pairs go that a request names.
 fn conclude(association: &mut Association, table: &mut Table, verdict: &Verdict, moment: u64)
     requires reserved { HoldsReserved association.old table.old }
     requires sound { IsSoundVerdict table.old.pairs association.old.serial verdict.now }

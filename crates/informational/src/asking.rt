@@ -25,14 +25,14 @@ use suite::Sealer;
 use wire::Message;
 use wire::numbers::INFORMATIONAL;
 
-/// Makes a request of INFORMATIONAL (RFC 7296, sections 1.4, 1.4.1 and 2.4), which waits for its answer
-/// from then on. The pair of a child that is to be deleted is Deleting from then on, and goes with the
+/// Makes a request of INFORMATIONAL (RFC 7296, sections 1.4, 1.4.1 and 2.4), which waits for its answer from
+/// then on. The SA pair of a Child SA that is to be deleted is Deleting from then on, and goes with the
 /// answer.
 ///
-/// Refused, in this order: [`OrderFault::WrongPhase`] where the association is not established,
-/// [`OrderFault::Busy`] where a request to delete it waits for its answer or the peer takes no more
-/// requests at once, [`OrderFault::NumbersSpent`] where no number is left, [`OrderFault::Memory`]. What is
-/// refused changes nothing.
+/// Refused, in this order: [`OrderFault::WrongPhase`] where the IKE SA is not established,
+/// [`OrderFault::Busy`] where a request to delete it waits for its answer or the peer takes no more requests
+/// at once, [`OrderFault::NumbersSpent`] where no Message ID is left, [`OrderFault::Memory`]. What is refused
+/// changes nothing.
 ///
 /// The caller asks to delete a child only where its pair is there, and Live.
 pub fn ask<C: Sealer>(
@@ -75,7 +75,7 @@ pub fn ask<C: Sealer>(
     Ok(Issued { number, octets })
 }
 
-// The number that the next request is to have.
+// The Message ID that the next request is to have.
 fn may_issue(association: &Association) -> Result<u32, OrderFault>
     requires { IsEstablished association.now.phase }
     ensures number { IfOk result (λ number. number ≡ association.now.outgoing.next) }
@@ -95,7 +95,7 @@ fn may_issue(association: &Association) -> Result<u32, OrderFault>
     }
 }
 
-// One more request waits for its answer, under the next number.
+// One more request waits for its answer, under the next Message ID.
 fn issue(
     association: &mut Association,
     octets: Items<u8>,
@@ -116,12 +116,12 @@ fn issue(
                 .issue(new_request(octets, purpose, moment));
             Ok(())
         }
-        // The number may be issued, so the fault is want of memory.
+        // The Message ID may be issued, so the fault is an allocation failure.
         Err(_) => Err(AllocError),
     }
 }
 
-// The pair of a child that is to be deleted carries nothing outward any more.
+// The SA pair of a Child SA that is to be deleted carries nothing outward any more.
 fn mark(table: &mut Table, order: Order)
     requires { IsOfLive order table.old.pairs }
     ensures { MarksFor order table.old table.new }

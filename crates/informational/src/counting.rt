@@ -15,13 +15,14 @@ use sadb::Table;
 use setup::Setup;
 use std::alloc::{AllocError, Global};
 
-/// Counts the response to a request of INFORMATIONAL (RFC 7296, sections 1.4 and 1.4.1), by the payloads that it opened to. The association
-/// is closed where it has a notice INVALID_SYNTAX (section 2.21.3), or answers a request to delete it; the pair of a child goes whose
-/// deletion it answers. What else it says is nothing to that; the first error notice in it is told ([`Ended::declined`]). It is `None`, and
-/// nothing is changed, where the association is not established.
+/// Matches the response to a request of INFORMATIONAL (RFC 7296, sections 1.4 and 1.4.1), by the payloads
+/// that it opened to. The IKE SA is closed where it has a Notify payload INVALID_SYNTAX (section 2.21.3), or
+/// answers a request to delete it; the SA pair of a Child SA goes whose deletion it answers. What else it
+/// says is nothing to that; the first error notification in it is told ([`Ended::declined`]). It is `None`,
+/// and nothing is changed, where the IKE SA is not established.
 ///
-/// The caller asks only where a request of this number is outstanding, which asks for no child, and the
-/// SPIs that the association holds are reserved in the table. An error is for want of memory alone, and
+/// The caller asks only where a request with this Message ID is outstanding, which asks for no child, and the
+/// SPIs that the IKE SA holds are reserved in the table. The only error is an allocation failure, and it
 /// changes nothing.
 pub fn count<C>(
     alloc: Global,
@@ -55,7 +56,7 @@ pub fn count<C>(
     }))
 }
 
-// What the peer tells by its notices.
+// What the peer tells by its Notify payloads.
 #[derive(Clone, Copy)]
 struct Told {
     // Whether it could not read the request.
@@ -81,7 +82,7 @@ fn read_answer(alloc: Global, plain: &Plain) -> Result<Told, AllocError>
     }
 }
 
-// The association is closed, or the pair goes that this end asked to delete.
+// The IKE SA is closed, or the SA pair goes that this end asked to delete.
 fn conclude(
     association: &mut Association,
     table: &mut Table,
@@ -100,7 +101,7 @@ fn conclude(
     }
 }
 
-// The pair of a child goes that this end asked to delete, if it is of this association.
+// The SA pair of a Child SA goes that this end asked to delete, if it is of this IKE SA.
 fn remove_deleted(table: &mut Table, ike: u32, purpose: &Purpose)
     ensures { RemovesOwn ike (gone_with table.old.pairs ike purpose.now) table.old table.new }
 {

@@ -9,19 +9,19 @@ use deletions::{delete_association, delete_child};
 use std::alloc::{AllocError, Global};
 use wire::Payload;
 
-/// What this end asks of the peer of an association by INFORMATIONAL (RFC 7296, section 1.4).
+/// What this end asks of the peer of an IKE SA by INFORMATIONAL (RFC 7296, section 1.4).
 #[derive(Clone, Copy, Debug, PartialEq, Eq)]
 pub enum Order {
     /// Whether it is there (section 2.4).
     Probe,
-    /// To delete a child (section 1.4.1).
+    /// To delete a Child SA (section 1.4.1).
     DeleteChild {
-        /// The serial of its pair in the table.
+        /// The serial of its SA pair in the table.
         child: u32,
         /// The SPI under which this end receives by it, which the request names.
         spi: u32,
     },
-    /// To delete the association, with all its children (section 1.4.1).
+    /// To delete the IKE SA, with all its Child SAs (section 1.4.1).
     DeleteAssociation,
 }
 

@@ -1,4 +1,4 @@
--- What an initiator's child is, by the two ways in which it is said.
+-- What an initiator's Child SA is, by the two ways in which it is said.
 use Rattle.std.proofs.Common.{◌≡◌, ℕ, List, Option, Some, None, MatchOption, subst}
 use Rattle.wire.specs.declared.payload.Payload.{Payload}
 use Rattle.sadb.specs.declared.pair.Pair.{Pair}

@@ -1,4 +1,4 @@
--- When an initiator's association can be brought to an outcome.
+-- When an initiator's IKE SA can be brought to an outcome.
 use Rattle.std.proofs.Common.{◌≡◌, ℕ, Option, Some, None, ap, subst, sym, inl}
 use Rattle.sadb.specs.Database.{Database, IsReserved}
 use Rattle.sadb.specs.declared.pair.Pair.{Pair}

@@ -1,5 +1,5 @@
--- The answer to IKE_AUTH, and what becomes of the association and of the table (RFC 7296 sections 1.2, 2.3
--- and 2.21.2).
+-- The answer to IKE_AUTH, and what becomes of the IKE SA and of the table (RFC 7296 sections 1.2, 2.3 and
+-- 2.21.2).
 use Rattle.std.specs.Prelude.{◌≡◌, ℕ, true, Option, Some, None, List, [], ◌∷◌}
 use Rattle.base.specs.Octets.{Octets}
 use Rattle.wire.specs.Numbers.{IKE_AUTH}
@@ -71,7 +71,7 @@ abbrev pub outcome_of : Decision → Outcome
 outcome_of (decision.Refused notice) = outcome.Closes
 outcome_of (decision.Accepted answer window) = outcome.Establishes (pair_of answer) window
 
--- The request takes effect: it is answered, the answer is kept, and the association is established or closed.
+-- The request is processed: it is answered, the response is cached, and the IKE SA is established or closed.
 pub record AnswersAuth (prover : Prover) (setup : Setup) (old : Association) (table : Database) (number : ℕ) (plain : Plain) (answer : Answered) (new : Association) (new_table : Database) : Type 0 where
   pub opened : HalfOpen
   pub was : old.phase ≡ phase.HalfOpen opened
@@ -92,7 +92,7 @@ pub record IsHalfOpen (p : Phase) : Type 0 where
   pub opened : HalfOpen
   pub is : p ≡ phase.HalfOpen opened
 
--- The request takes effect at a half-open association. Elsewhere nothing is done.
+-- The request is processed at a half-open IKE SA. Elsewhere nothing is done.
 abbrev pub AnswersWhereHalfOpen : Prover → Setup → Association → Database → ℕ → Plain → Option Answered → Association → Database → Type 0
 AnswersWhereHalfOpen prover setup old table number plain None new new_table = (¬ IsHalfOpen old.phase) × (new ≡ old) × (new_table ≡ table)
 AnswersWhereHalfOpen prover setup old table number plain (Some answer) new new_table = AnswersAuth prover setup old table number plain answer new new_table

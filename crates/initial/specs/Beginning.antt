@@ -1,4 +1,4 @@
--- Associations as they begin, at both ends (RFC 7296 sections 1.2, 2.6 and 2.14).
+-- IKE SAs as they begin, at both ends (RFC 7296 sections 1.2, 2.6 and 2.14).
 use Rattle.std.specs.Prelude.{◌≡◌, ℕ, Option, None}
 use Rattle.base.specs.Octets.{Octets}
 use Rattle.wire.specs.Messages.{SpellsPlainly}
@@ -20,7 +20,7 @@ use Rattle.association.specs.Issuing.{new_request, IssuesNext}
 use Rattle.initial.specs.declared.beginning.Admitted.{Admitted}
 use Rattle.initial.specs.declared.beginning.Beginning.{Beginning}
 
--- The first request of an initiator, with what is fresh, and kept under number 0.
+-- The first request of an initiator, with what is fresh, and kept under Message ID 0.
 pub record Begins (cipher : Cipher) (group : ℕ) (public_value : Octets → Octets) (fresh : Fresh) (moment : ℕ) (beginning : Beginning) : Type 0 where
   pub spelled : SpellsPlainly (request_message cipher group (public_value fresh.secret) fresh.spi None fresh.nonce) beginning.octets
   pub issued : IssuesNext none_issued (new_request beginning.octets Begin moment) beginning.outgoing
@@ -28,7 +28,7 @@ pub record Begins (cipher : Cipher) (group : ℕ) (public_value : Octets → Oct
   pub secret : beginning.secret ≡ fresh.secret
   pub nonce_is : beginning.nonce ≡ fresh.nonce
 
--- an initiator's association, when its first request goes out
+-- an initiator's IKE SA, when its first request goes out
 abbrev pub begun : ℕ → Beginning → AskedChildView → Association
 begun serial beginning child = record {
   serial = serial;
@@ -40,7 +40,7 @@ begun serial beginning child = record {
   phase = phase.InitSent (record { secret = beginning.secret; nonce = beginning.nonce; cookie = None; cookies_taken = 0; child = child });
 }
 
--- a responder's association, when its answer goes out: the request of number 0 took effect
+-- a responder's IKE SA, when its answer goes out: the request with Message ID 0 was processed
 abbrev pub half_open : ℕ → ℕ → ℕ → KeyRecord → Octets → Octets → ℕ → Association
 half_open serial spi_i spi_r keys request reply moment = record {
   serial = serial;
@@ -52,7 +52,7 @@ half_open serial spi_i spi_r keys request reply moment = record {
   phase = phase.HalfOpen (record { keys = keys; request = request; reply = reply; made = moment });
 }
 
--- The offer is answered, and the association has the keys.
+-- The offer is answered, and the IKE SA has the keys.
 pub record Admits (cipher : Cipher) (group : ℕ) (public_value : Octets → Octets) (shared_secret : Octets → Octets → Option Octets) (fresh : Fresh) (moment serial : ℕ) (offer : OfferView) (spi_i : ℕ) (request : Octets) (admitted : Admitted) : Type 0 where
   pub agreed : Agreed
   pub answer : IsAnswer cipher group public_value shared_secret offer spi_i fresh agreed

@@ -1,5 +1,4 @@
--- What becomes of an association when IKE_AUTH is done, and of the table (RFC 7296 sections 1.2, 2.3 and
--- 2.21.2).
+-- What becomes of an IKE SA when IKE_AUTH is done, and of the table (RFC 7296 sections 1.2, 2.3 and 2.21.2).
 use Rattle.std.specs.Prelude.{◌≡◌, ℕ, Bool, true, false, Option, Some, None, max}
 use Rattle.requests.specs.Incoming.{PeerRequests}
 use Rattle.requests.specs.Outgoing.{OwnRequests}
@@ -15,7 +14,7 @@ use Rattle.setup.specs.Configs.{Setup}
 use Rattle.initial.specs.declared.concluding.Outcome.{Outcome}
 use Rattle.initial.specs.declared.concluding.Outcome.TheVariants as outcome
 
--- A child is added, if there is one: for the SPI that was reserved for it, which is given up otherwise, or
+-- A Child SA is added, if there is one: for the SPI that was reserved for it, which is given up otherwise, or
 -- for the next one.
 abbrev pub AddsChild : Database → Option ℕ → Option Pair → Option ℕ → Database → Type 0
 AddsChild old None None None new = new ≡ old
@@ -54,7 +53,7 @@ abbrev pub is_closing : Outcome → Bool
 is_closing outcome.Closes = true
 is_closing (outcome.Establishes pair window) = false
 
--- the table can take the child
+-- the table can take the Child SA
 abbrev pub CanAdd : Database → Option ℕ → Option Pair → Type 0
 CanAdd table None None = Unit {0}
 CanAdd table None (Some pair) = CanTake table pair

@@ -23,14 +23,14 @@ use Rattle.initial.specs.declared.deciding.Decision.{Decision}
 use Rattle.initial.specs.declared.deciding.Decision.TheVariants as decision
 use Rattle.exchange.specs.Chains.{IsRead}
 
--- what the peer of a half-open association has to prove, and what this end has
+-- what the peer of a half-open IKE SA has to prove, and what this end has
 abbrev pub peer_proving : HalfOpen → ProvingView
 peer_proving opened = proving_of Initiator opened.keys opened.request
 
 abbrev pub own_proving : HalfOpen → ProvingView
 own_proving opened = proving_of Responder opened.keys opened.reply
 
--- The peer proved its identity. Its child is answered, and its window is told.
+-- The peer proved its identity. Its Child SA is answered, and its window is told.
 pub record AcceptsAuth (accepts : Accepts) (setup : Setup) (ike : ℕ) (opened : HalfOpen) (table : Database) (payloads : List Payload) (answer : Response) (window : ℕ) : Type 0 where
   pub asked : AskedView
   pub judged : IsAuthJudgement accepts setup.config.peer.identity (peer_proving opened) payloads (Accepted asked)
@@ -51,7 +51,7 @@ pub record Decides (accepts : Accepts) (setup : Setup) (ike : ℕ) (opened : Hal
   pub read : IsRead plain payloads
   pub due : IsDecision accepts setup ike opened table payloads decided
 
--- what answers the child can be sent
+-- what answers the Child SA can be sent
 abbrev pub FitsResponse : Response → Type 0
 FitsResponse (response.Made made) = FitMessages made.payloads
 FitsResponse (response.Refused notice) = FitsNotice notice
@@ -61,7 +61,7 @@ abbrev pub FitsDecision : Decision → Type 0
 FitsDecision (decision.Refused notice) = FitsNotice notice
 FitsDecision (decision.Accepted answer window) = FitsResponse answer × IsWindow window
 
--- the table can take the pair, where a child is made
+-- the table can take the SA pair, where a Child SA is made
 abbrev pub LeavesRoomFor : Decision → Database → Type 0
 LeavesRoomFor (decision.Refused notice) table = Unit
 LeavesRoomFor (decision.Accepted answer window) table = LeavesRoom answer table

@@ -31,18 +31,18 @@ use Rattle.initial.specs.declared.concluding.Outcome.TheVariants as outcome
 abbrev pub responder_proving : AuthSent → ProvingView
 responder_proving sent = proving_of Responder sent.keys sent.first
 
--- the child, where the answer has an acceptable one
+-- the Child SA, where the answer has an acceptable one
 abbrev pub IsFirstChild : Setup → ℕ → AuthSent → List Payload → Option Pair → Type 0
 IsFirstChild setup ike sent payloads None = IsUnacceptable (asked_of sent.child) payloads
 IsFirstChild setup ike sent payloads (Some pair) = IsAcceptedChild (first_setting setup.config ike sent.keys) (asked_of sent.child) payloads pair
 
--- The peer proved its identity, so the association stands, with its child or without it.
+-- The peer proved its identity, so the IKE SA stands, with its Child SA or without it.
 pub record ProvesPeer (accepts : Accepts) (setup : Setup) (ike : ℕ) (sent : AuthSent) (payloads : List Payload) (pair : Option Pair) (window : ℕ) : Type 0 where
   pub proved : is_accepted accepts setup.config.peer.identity (responder_proving sent) payloads ≡ true
   pub child : IsFirstChild setup ike sent payloads pair
   pub told : window ≡ peer_window payloads
 
--- what is not in the grammar, or doesn't prove the peer's identity, ends the association
+-- what is not in the grammar, or doesn't prove the peer's identity, ends the IKE SA
 abbrev pub IsVerdict : Accepts → Setup → ℕ → AuthSent → Option (List Payload) → Outcome → Type 0
 IsVerdict accepts setup ike sent None outcome.Closes = Unit {0}
 IsVerdict accepts setup ike sent None (outcome.Establishes pair window) = ⊥
@@ -54,7 +54,7 @@ pub record Judges (accepts : Accepts) (setup : Setup) (ike : ℕ) (sent : AuthSe
   pub read : IsRead plain payloads
   pub due : IsVerdict accepts setup ike sent payloads verdict
 
--- The response is counted, and the association is established or closed.
+-- The response is matched, and the IKE SA is established or closed.
 pub record EndsAuth (accepts : Accepts) (setup : Setup) (old : Association) (table : Database) (number : ℕ) (plain : Plain) (ended : Ended) (new : Association) (new_table : Database) : Type 0 where
   pub sent : AuthSent
   pub was : old.phase ≡ phase.AuthSent sent
@@ -72,12 +72,12 @@ pub record IsAuthSent (p : Phase) : Type 0 where
   pub sent : AuthSent
   pub is : p ≡ phase.AuthSent sent
 
--- The response is counted where IKE_AUTH was sent. Elsewhere nothing is done.
+-- The response is matched where IKE_AUTH was sent. Elsewhere nothing is done.
 abbrev pub EndsWhereSent : Accepts → Setup → Association → Database → ℕ → Plain → Option Ended → Association → Database → Type 0
 EndsWhereSent accepts setup old table number plain None new new_table = (¬ IsAuthSent old.phase) × (new ≡ old) × (new_table ≡ table)
 EndsWhereSent accepts setup old table number plain (Some ended) new new_table = EndsAuth accepts setup old table number plain ended new new_table
 
--- the child that is made has the SPI that was reserved for it
+-- the Child SA that is made has the SPI that was reserved for it
 abbrev pub HasItsSpi : ℕ → Option Pair → Type 0
 HasItsSpi spi None = Unit {0}
 HasItsSpi spi (Some pair) = pair.inbound.association.spi ≡ spi

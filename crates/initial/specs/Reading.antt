@@ -70,7 +70,7 @@ pub record BringsCookie (asker : Asker) (moment : ℕ) (old : Association) (sent
     phase = phase.InitSent (record sent { cookie = Some cookie; cookies_taken = sent.cookies_taken + 1 });
   }
 
--- the request of IKE_AUTH: under the association's keys, with the proof over this end's first message
+-- the request of IKE_AUTH: under the IKE SA's keys, with the proof over this end's first message
 abbrev pub identity_message : ℕ → (Octets → Octets) → Setup → Association → InitSent → ℕ → KeyRecord → Octets → Message
 identity_message own_method proof_of setup old sent spi_r keys first = record {
   header = sent_header old.spi_i spi_r IKE_AUTH old.role false 1;

@@ -33,19 +33,19 @@ use suite::{Proof, Sealer};
 use wire::numbers::IKE_AUTH;
 use wire::{Message, Payload};
 
-/// Answers a request of IKE_AUTH at a half-open association (RFC 7296, section 1.2), by the payloads that
-/// it opened to.
+/// Answers a request of IKE_AUTH at a half-open IKE SA (RFC 7296, section 1.2), by the payloads that it
+/// opened to.
 ///
-/// The association is closed, and the reply is one notice, where the payloads are not in the grammar
+/// The IKE SA is closed, and the reply is one Notify payload, where the payloads are not in the grammar
 /// (INVALID_SYNTAX), or the peer is refused by [`auth::judge`]. Otherwise it is established: the reply has
-/// this end's identity and its proof, what [`children::respond`] answers for the child, and the window of
-/// this end where it is above 1. From then on both windows count (section 2.3): this end's as configured,
-/// the peer's as it told, 1 where it told none. It is `None`, and nothing is changed, where the association
-/// is not half-open.
+/// this end's identity and its proof, what [`children::respond`] answers for the Child SA, and the window of
+/// this end where it is above 1. From then on both windows apply (section 2.3): this end's as configured, the
+/// peer's as it told, 1 where it told none. It is `None`, and nothing is changed, where the IKE SA is not
+/// half-open.
 ///
-/// The caller asks only where the request is fresh and the SPIs that the association holds are reserved in
-/// the table. An error is for want of memory alone, for a place in the table as [`children::respond`] says:
-/// association and table are as they were then, but for the table's room.
+/// The caller asks only where the request is fresh and the SPIs that the IKE SA holds are reserved in the
+/// table. The only error is an allocation failure, for a place in the table as [`children::respond`] says:
+/// IKE SA and table are as they were then, but for the table's spare capacity.
 pub fn answer_auth<C: Sealer + Proof>(
     alloc: Global,
     setup: &Setup<'_, C>,
@@ -83,7 +83,7 @@ pub fn answer_auth<C: Sealer + Proof>(
     }))
 }
 
-// A reply, and what it brings the association to.
+// A reply, and what it brings the IKE SA to.
 #[derive(Drop)]
 struct Reply {
     octets: Items<u8>,
@@ -131,7 +131,7 @@ fn make_reply<C: Sealer + Proof>(
     Ok(Reply { octets, outcome })
 }
 
-// What a reply says, and what it brings the association to.
+// What a reply says, and what it brings the IKE SA to.
 #[derive(Drop)]
 struct Content {
     payloads: Items<Payload>,
@@ -196,7 +196,7 @@ fn accepting<C: Proof>(
     )
 }
 
-// What the reply says of the child, and the pair that this end has of it.
+// What the reply says of the Child SA, and the SA pair that this end has of it.
 fn parts_of(response: Response) -> (ChildAnswer, Option<Pair>)
     requires { FitsResponse response }
     ensures answer { result.0 ≡ child_answer response }

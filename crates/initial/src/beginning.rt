@@ -1,4 +1,4 @@
-//! Associations as they begin, at both ends.
+//! IKE SAs as they begin, at both ends.
 ghost use Rattle.std.specs.Prelude.{◌≡◌, None, IfOk, MatchOption};
 ghost use Rattle.sa_init.specs.Fitting.{FitsOffer};
 ghost use Rattle.sa_init.specs.Judging.{offer_view};
@@ -15,7 +15,7 @@ use setup::Setup;
 use std::alloc::{AllocError, Global};
 use suite::{Agreement, Sealer};
 
-/// The first request of an initiator, made before its child has an SPI.
+/// The first request of an initiator, made before its Child SA has an SPI.
 #[derive(Drop)]
 pub struct Beginning {
     /// The request.
@@ -30,8 +30,8 @@ pub struct Beginning {
 }
 
 /// Makes the first request of an initiator (RFC 7296, section 1.2), with the SPI, the secret and the nonce
-/// that are fresh. That the SPI is not zero and no SPI of this end in use is the caller's to see to. An
-/// error is for want of memory alone.
+/// that are fresh. That the SPI is not zero and no SPI of this end in use is the caller's to see to. The only
+/// error is an allocation failure.
 pub fn begin<C: Sealer + Agreement>(
     alloc: Global,
     setup: &Setup<'_, C>,
@@ -63,7 +63,7 @@ pub fn begin<C: Sealer + Agreement>(
 }
 
 impl Beginning {
-    /// The association that waits for the response, and the request that goes out. Takes no memory.
+    /// The IKE SA that waits for the response, and the request that goes out. Takes no memory.
     pub fn into_association(
         self,
         alloc: Global,
@@ -99,7 +99,7 @@ impl Beginning {
     }
 }
 
-/// A responder's association, and what it answers.
+/// A responder's IKE SA, and what it answers.
 #[derive(Drop)]
 pub struct Admitted {
     pub association: Association,
@@ -108,10 +108,10 @@ pub struct Admitted {
 }
 
 /// Answers an offer that was accepted ([`sa_init::judge`]), with the SPI, the secret and the nonce that are
-/// fresh: the association is half open from then on. `request` is the very datagram that brought the offer,
-/// over which the initiator's AUTH is computed. That the fresh SPI is not zero and no SPI of this end in
-/// use is the caller's to see to. `None` (E32) exactly where the agreement refuses the initiator's public
-/// value. An error is for want of memory alone.
+/// fresh: the IKE SA is half-open from then on. `request` is the very datagram that brought the offer, over
+/// which the initiator's AUTH is computed. That the fresh SPI is not zero and no SPI of this end in use is
+/// the caller's to see to. `None` (E32) exactly where the agreement refuses the initiator's public value. The
+/// only error is an allocation failure.
 pub fn admit<C: Sealer + Agreement>(
     alloc: Global,
     setup: &Setup<'_, C>,

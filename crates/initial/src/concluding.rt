@@ -1,4 +1,4 @@
-//! What becomes of an association when IKE_AUTH is done.
+//! What becomes of an IKE SA when IKE_AUTH is done.
 ghost use Rattle.std.specs.Prelude.{◌≡◌, Option, Some, None};
 ghost use Rattle.auth.specs.Windows.{IsWindow};
 ghost use Rattle.association.specs.Phases.{established_spi};
@@ -13,11 +13,11 @@ use setup::Setup;
 /// How IKE_AUTH ends.
 #[derive(Drop)]
 pub enum Outcome {
-    /// The association is over.
+    /// The IKE SA is over.
     Closes,
     /// It is established.
     Establishes {
-        /// Its first child, if it has one.
+        /// Its first Child SA, if it has one.
         pair: Option<Pair>,
         /// The peer's window (RFC 7296, section 2.3).
         window: u8,
@@ -25,7 +25,7 @@ pub enum Outcome {
 }
 
 impl Outcome {
-    /// Whether the association is over.
+    /// Whether the IKE SA is over.
     pub fn is_closing(&self) -> bool
         ensures { result ≡ is_closing self.now }
     {
@@ -36,7 +36,7 @@ impl Outcome {
     }
 }
 
-/// Brings an association and the table to an outcome. The serial of the child is answered, if there is one.
+/// Brings an IKE SA and the table to an outcome. The serial of the Child SA is answered, if there is one.
 /// Takes no memory.
 pub fn conclude<C>(
     setup: &Setup<'_, C>,
@@ -63,7 +63,7 @@ pub fn conclude<C>(
     }
 }
 
-// The child is added, and both windows count from now on.
+// The Child SA is added, and both windows apply from now on.
 fn establish(
     association: &mut Association,
     table: &mut Table,
@@ -95,7 +95,7 @@ fn widen(association: &mut Association, own: u8, peers: u8)
     association.outgoing.set_window(window);
 }
 
-// A child takes the SPI that was reserved for it, which is given up where there is none; or the next one,
+// A Child SA takes the SPI that was reserved for it, which is given up where there is none; or the next one,
 // where none was.
 fn add(table: &mut Table, spi: Option<Spi>, pair: Option<Pair>) -> Option<u32>
     requires { CanAdd table.old spi pair }

@@ -27,18 +27,19 @@ use wire::laws::what_is_read_fits;
 /// What is decided.
 #[derive(Drop)]
 pub enum Decision {
-    /// The association is over, for what the notice says.
+    /// The IKE SA is over, for what the notification says.
     Refused(Notice),
     /// The peer proved its identity.
     Accepted {
-        /// Its first child is made, or not.
+        /// Its first Child SA is made, or not.
         response: Response,
         /// The window that it told (RFC 7296, section 2.3).
         window: u8,
     },
 }
 
-/// What is decided about a request of IKE_AUTH (RFC 7296, section 1.2). Of the table its room alone changes.
+/// What is decided about a request of IKE_AUTH (RFC 7296, section 1.2). Of the table its spare capacity alone
+/// changes.
 pub fn decide<C: Proof>(
     alloc: Global,
     setup: &Setup<'_, C>,
@@ -103,7 +104,7 @@ fn decide_on<C: Proof>(
     }
 }
 
-// What answers the first child of an association.
+// What answers the first Child SA of an IKE SA.
 fn respond_to<C>(
     alloc: Global,
     setup: &Setup<'_, C>,

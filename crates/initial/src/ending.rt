@@ -22,18 +22,19 @@ use std::alloc::Global;
 use suite::Proof;
 use wire::Payload;
 
-/// Counts the response to IKE_AUTH (RFC 7296, section 1.2), by the payloads that it opened to.
+/// Matches the response to IKE_AUTH (RFC 7296, section 1.2), by the payloads that it opened to.
 ///
-/// The association is closed where the payloads are not in the grammar, or the peer is refused by [`auth::is_accepted`]. Otherwise it is
-/// established, with the child that [`children::accept`] makes of the answer, or without one: then its SPI is given up. From then
-/// on both windows count (section 2.3): this end's as configured, the peer's as it told, 1 where it told none. Where no child is made, the
-/// first error notice of the response is told ([`Ended::declined`]). It is `None`, and nothing is changed, where this end doesn't wait for the
-/// response to IKE_AUTH.
+/// The IKE SA is closed where the payloads are not in the grammar, or the peer is refused by
+/// [`auth::is_accepted`]. Otherwise it is established, with the Child SA that [`children::accept`] makes of
+/// the answer, or without one: then its SPI is given up. From then on both windows apply (section 2.3): this
+/// end's as configured, the peer's as it told, 1 where it told none. Where no child is made, the first error
+/// notification of the response is told ([`Ended::declined`]). It is `None`, and nothing is changed, where
+/// this end doesn't wait for the response to IKE_AUTH.
 ///
-/// The caller asks only where a request of this number is outstanding, which asks for no child but the
-/// first, and the SPIs that the association holds are reserved in the table. An error is for want of memory
-/// alone, for the message or the pair: its place in the table stands since its SPI was reserved. It changes
-/// nothing.
+/// The caller asks only where a request with this Message ID is outstanding, which asks for no child but the
+/// first, and the SPIs that the IKE SA holds are reserved in the table. The only error is an allocation
+/// failure, for the message or the SA pair: its place in the table stands since its SPI was reserved. It
+/// changes nothing.
 pub fn end_auth<C: Proof>(
     alloc: Global,
     setup: &Setup<'_, C>,

@@ -40,7 +40,7 @@ use wire::{Message, Payload};
 pub enum Continued {
     /// IKE_SA_INIT goes out again with a cookie.
     Again(Items<u8>),
-    /// The association has its keys, and IKE_AUTH goes out.
+    /// The IKE SA has its keys, and IKE_AUTH goes out.
     AsksAuth(Items<u8>),
     /// E32: the response doesn't fit, or none is waited for, and nothing is changed.
     Unfit,
@@ -48,12 +48,12 @@ pub enum Continued {
 
 /// Goes on by the response to IKE_SA_INIT (RFC 7296, sections 1.2 and 2.6), as [`sa_init::read`] reads it.
 /// Where it asks for a cookie, the request goes out again with it, and its timer runs anew. Where it gives
-/// keys, the association has them and the responder's SPI from now on, and IKE_AUTH goes out as the request
-/// of number 1: this end's identity and its proof, what it asks for its first child, and its window where
-/// that is above 1. Where this end doesn't wait for the response, it is [`Continued::Unfit`].
+/// keys, the IKE SA has them and the responder's SPI from now on, and IKE_AUTH goes out as the request with
+/// Message ID 1. That has this end's identity and its proof, what it asks for its first Child SA, and its
+/// window where that is above 1. Where this end doesn't wait for the response, it is [`Continued::Unfit`].
 ///
-/// The caller asks only where a request of this number is outstanding, and the octets are those that the
-/// message was decoded from. An error is for want of memory alone, and changes nothing.
+/// The caller asks only where a request with this Message ID is outstanding, and the octets are those that
+/// the message was decoded from. The only error is an allocation failure, and it changes nothing.
 pub fn read_response<C: Sealer + Agreement + Proof>(
     alloc: Global,
     setup: &Setup<'_, C>,

@@ -15,7 +15,7 @@ use crate::task::Task;
 // 4 times.
 const MESSAGES_LEAST: usize = 5;
 
-// Writes the check values of the messages at these places, each computed alone.
+// Writes the ICVs of the messages at these places, each computed alone.
 fn write_one_by_one(tasks: &[Task<'_>], values: &mut [[u8; 16]], places: &[usize])
     requires same { length values.old ≡ length tasks.now }
     requires within { (k : ℕ) → k < length places.now → slice_index places.now k < length tasks.now }
@@ -27,7 +27,7 @@ fn write_one_by_one(tasks: &[Task<'_>], values: &mut [[u8; 16]], places: &[usize
     }
 }
 
-// Writes eight check values to the places of their messages.
+// Writes eight ICVs to the places of their messages.
 fn write_eight(
     tasks: &[Task<'_>],
     values: &mut [[u8; 16]],
@@ -85,7 +85,7 @@ fn count_alone(tasks: &[Task<'_>], queue: &[usize]) -> usize
     queue.len()
 }
 
-// Writes the check values of messages that follow one another in lanes.
+// Writes the ICVs of messages that follow one another in lanes.
 fn write_stream(tasks: &[Task<'_>], values: &mut [[u8; 16]], queue: &[usize])
     requires same { length values.old ≡ length tasks.now }
     requires few { length tasks.now ≤ BATCH }
@@ -105,7 +105,7 @@ fn write_stream(tasks: &[Task<'_>], values: &mut [[u8; 16]], queue: &[usize])
     }
 }
 
-// Writes the check values of a queue, in one go where each message has a lane of its own.
+// Writes the ICVs of a queue, in one go where each message has a lane of its own.
 fn write_queue(tasks: &[Task<'_>], values: &mut [[u8; 16]], queue: &[usize])
     requires same { length values.old ≡ length tasks.now }
     requires few { length tasks.now ≤ BATCH }
@@ -121,7 +121,7 @@ fn write_queue(tasks: &[Task<'_>], values: &mut [[u8; 16]], queue: &[usize])
     }
 }
 
-// Writes the check values of messages that have different counts of blocks, the longest first.
+// Writes the ICVs of messages that have different counts of blocks, the longest first.
 fn write_uneven(tasks: &[Task<'_>], values: &mut [[u8; 16]], queue: &[usize])
     requires same { length values.old ≡ length tasks.now }
     requires few { length tasks.now ≤ BATCH }
@@ -135,8 +135,8 @@ fn write_uneven(tasks: &[Task<'_>], values: &mut [[u8; 16]], queue: &[usize])
     }
 }
 
-// Writes the check values of messages in lanes: eight that have as many blocks side by side, and the others
-// as a queue.
+// Writes the ICVs of messages in lanes: eight that have as many blocks side by side, and the others as a
+// queue.
 fn write_in_lanes(tasks: &[Task<'_>], values: &mut [[u8; 16]], places: &[usize])
     requires same { length values.old ≡ length tasks.now }
     requires few { length tasks.now ≤ BATCH }
@@ -162,7 +162,7 @@ fn write_in_lanes(tasks: &[Task<'_>], values: &mut [[u8; 16]], places: &[usize])
     write_uneven(tasks, values, &queue[..queued]);
 }
 
-// Writes the check value of each message, at most 64 of them.
+// Writes the ICV of each message, at most 64 of them.
 fn write_batch(tasks: &[Task<'_>], values: &mut [[u8; 16]])
     requires same { length values.old ≡ length tasks.now }
     requires few { length tasks.now ≤ BATCH }

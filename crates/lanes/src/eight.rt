@@ -122,7 +122,7 @@ fn tags_at(tasks: &[Task<'_>], places: &[usize; 8]) -> [u32x8; 8]
     )
 }
 
-// The check value of lane `j`: the first half of its tag.
+// The ICV of lane `j`: the first half of its tag.
 fn value(tags: &[u32x8; 8], j: usize) -> [u8; 16]
     requires { IsLane j }
     ensures { result ≡ take 16 (digest_bytes (lane j tags.now) 8) }
@@ -130,7 +130,7 @@ fn value(tags: &[u32x8; 8], j: usize) -> [u8; 16]
     first_octets(&state_of_lane(tags, j))
 }
 
-// The check value in each lane.
+// The ICV in each lane.
 fn values(tags: &[u32x8; 8]) -> [[u8; 16]; 8]
     ensures { (j : ℕ) → IsLane j → slice_index_or result j [] ≡ take 16 (digest_bytes (lane j tags.now) 8) }
 {
@@ -146,7 +146,7 @@ fn values(tags: &[u32x8; 8]) -> [[u8; 16]; 8]
     ]
 }
 
-// The check values of the messages at eight places.
+// The ICVs of the messages at eight places.
 pub(crate) fn icv_eight(tasks: &[Task<'_>], places: &[usize; 8]) -> [[u8; 16]; 8]
     requires { (j : ℕ) → IsLane j → FitsALane tasks.now (slice_index places.now j) }
     ensures { (j : ℕ) → IsLane j → (task : Task) → slice_get tasks.now (slice_index places.now j) ≡ Some task
@@ -155,7 +155,7 @@ pub(crate) fn icv_eight(tasks: &[Task<'_>], places: &[usize; 8]) -> [[u8; 16]; 8
     values(&tags_at(tasks, places))
 }
 
-// The check values of the messages at eight places, from their inner digests.
+// The ICVs of the messages at eight places, from their inner digests.
 pub(crate) fn icv_behind(
     tasks: &[Task<'_>],
     places: &[usize; 8],

@@ -1,5 +1,4 @@
-//! Check values of many messages side by side: HMAC-SHA-256-128 (RFC 4868), as crate `mac` has it, in eight
-//! lanes.
+//! ICVs of many messages side by side: HMAC-SHA-256-128 (RFC 4868), as crate `mac` has it, in eight lanes.
 //!
 //! SHA-256 takes the blocks of one message in turn, and so leaves most of a processor idle. Here eight
 //! messages go through it at once, one in each lane of a vector. Each has its key, and may have any length.

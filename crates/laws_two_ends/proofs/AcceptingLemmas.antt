@@ -1,4 +1,4 @@
--- B takes IKE_AUTH: A is who it is to be, so the association is established, and its first child is made
+-- B takes IKE_AUTH: A is who it is to be, so the IKE SA is established, and its first Child SA is made
 -- (RFC 7296 sections 1.2 and 2.15).
 use Rattle.std.proofs.Common.{◌≡◌, ◌<◌, ◌≤◌, ◌∷◌, inl, inr, ℕ, zero, suc, Bool, false, Option, Some, None, [], All, Any, Contains, ap, arith, refl, subst, sym}
 use Rattle.std.specs.Prelude.{replicate, slice_get}
@@ -184,7 +184,7 @@ narrowing = record {
   points_r = all_common;
 }
 
--- ---- the child
+-- ---- the Child SA
 
 abbrev before_table : Database
 before_table = empty_table (spi_at B)
@@ -209,7 +209,7 @@ made_terms = record {
 abbrev made : Made
 made = made_of (first_setting (config_at B) 1 worked_record) (Esp false) chosen agreed_terms
 
--- ---- the request takes effect
+-- ---- the request is processed
 
 abbrev at_half : HalfOpen
 at_half = record { keys = worked_record; request = request_octets; reply = answer_octets; made = 0 }

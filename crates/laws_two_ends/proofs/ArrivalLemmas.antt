@@ -1,4 +1,4 @@
--- A datagram comes to an end that holds one association, which takes it; and what comes under keys had been
+-- A datagram comes to an end that holds one IKE SA, which takes it; and what comes under keys had been
 -- sent, where the message that comes had.
 use Rattle.std.proofs.Common.{◌≡◌, ◌∷◌, inr, ℕ, Bool, false, List, [], Result, Ok, Contains, ap, refl, subst, sym, ◌∙◌}
 use Rattle.base.specs.Octets.{Octets}
@@ -27,7 +27,7 @@ use Rattle.gateway.specs.declared.world.stored.End.{End}
 use Rattle.gateway.specs.declared.world.stored.Protection.TheVariants as mark
 use Rattle.gateway.proofs.WorkedWorldLemmas.{OneMessage}
 
--- a machine that holds this association alone
+-- a machine that holds this IKE SA alone
 abbrev pub alone : Machine → Association → Machine
 alone machine a = record machine { held = record { next = 2; associations = a ∷ [] } }
 

@@ -1,4 +1,4 @@
--- A asks whether B is there; that takes effect at B and is answered, and A counts the response, whatever
+-- A asks whether B is there; that is processed at B and is answered, and A matches the response, whatever
 -- reply B kept before.
 use Rattle.std.proofs.Common.{◌≡◌, ◌+◌, ◌<◌, inl, ℕ, true, false, List, [], ◌∷◌, Some, Option, ap, arith, refl, sym, ◌∙◌}
 use Rattle.std.proofs.lemmas.Bool.{true≢false}
@@ -86,7 +86,7 @@ abbrev holding : Association → Held
 holding a = record { next = 2; associations = a ∷ [] }
 
 module _ (config : Config) (entries : List Entry) (fresh : Fresh) where
-  -- at the moment 0
+  -- at time 0
   abbrev setup : Setup
   setup = record { config = config; entries = entries; fresh = fresh; moment = 0 }
 
@@ -129,7 +129,7 @@ module _ (config : Config) (entries : List Entry) (fresh : Fresh) where
     marked = refl;
   }
 
--- ---- it takes effect
+-- ---- it is processed
 
 last_kept : (response : Octets) (n : ℕ) (octets : Octets) → map.get (answering response).incoming.kept n ≡ Some octets → n + 1 ≡ 2
 last_kept response n octets is = let one = (only_there map.empty refl 1 response n octets is).number in omega (arith, one)
@@ -147,7 +147,7 @@ probe_takes response setup table = record {
       (record { first = 0; plain = []; spelled = (refl, refl); octets = tt; whole = answered_plainly }) (taken response);
 }
 
--- ---- the response is counted
+-- ---- the response is matched
 
 probe_waits : map.get probing.outgoing.outstanding 2 ≡ Some probe_request
 probe_waits = put_there asking.outgoing.outstanding 2 2 probe_request refl

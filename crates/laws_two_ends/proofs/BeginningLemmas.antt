@@ -48,7 +48,7 @@ use Rattle.laws_two_ends.proofs.NewEndLemmas.{empty_is_sound, new_end_is_sound, 
 use Rattle.laws_two_ends.proofs.SoundnessLemmas.{sound_next, timely_alone, NoSpiIsLost, SoundnessStays}
 use Rattle.laws_two_ends.proofs.Stages.{answers, begins, end_with, opened, reserved_table, second_request, telling, tells, told_world}
 
--- an end's machine that holds this association alone
+-- an end's machine that holds this IKE SA alone
 abbrev machine_with : End → Association → Machine
 machine_with end a = alone (new_machine (config_at end)) a
 
@@ -150,7 +150,7 @@ tell_steps : Steps run_meaning all_protected (Message (replicate 4 2) answer_oct
     (machine_with A telling) first_table
 tell_steps = takes_alone (new_machine (config_at A)) all_protected (replicate 4 2) (fresh_of 3) answer_read refl refl reads_message
 
--- ---- nothing is due at the moment 0
+-- ---- nothing is due at time 0
 
 waiting_in_time : IsInTime 0 waiting
 waiting_in_time = in_time_if waiting refl (omega arith) (λ n r is. ap (λ (x : Request). x.timer) (only_there map.empty refl 0 first_request n r is).content)

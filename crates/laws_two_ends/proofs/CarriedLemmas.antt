@@ -1,5 +1,5 @@
--- The worked packet is sealed by A's pair, and judged, opened and handed up by B's, whatever the SPIs and
--- the keys of the child are.
+-- The worked packet is sealed by A's pair, and judged, opened and delivered by B's, whatever the SPIs and
+-- the keys of the Child SA are.
 use Rattle.std.proofs.Common.{inl, inr, ◌≡◌, ◌<◌, ◌+◌, ◌^◌, ◌||◌, ◌&&◌, ◌++◌, ℕ, Bool, true, false, [], Contains, refl, sym, ap, ◌∙◌, subst, arith}
 use Rattle.std.specs.Prelude.{nat_eq, nat_lt}
 use Rattle.std.specs.FinMap as map

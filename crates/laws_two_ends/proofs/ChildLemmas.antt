@@ -1,4 +1,4 @@
--- Each end's pair is what it has of the child that the worked request and its response made.
+-- Each end's pair is what it has of the Child SA that the worked request and its response made.
 use Rattle.std.proofs.Common.{◌∷◌, ℕ, [], refl}
 use Rattle.replay.specs.Window.{Seen}
 use Rattle.exchange.specs.declared.headers.Role.TheVariants.{Initiator, Responder}

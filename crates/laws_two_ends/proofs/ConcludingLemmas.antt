@@ -1,5 +1,5 @@
--- A takes the response to IKE_AUTH: B is who it is to be, so the association is established, and its first
--- child is made (RFC 7296 sections 1.2 and 2.15).
+-- A takes the response to IKE_AUTH: B is who it is to be, so the IKE SA is established, and its first
+-- Child SA is made (RFC 7296 sections 1.2 and 2.15).
 use Rattle.std.proofs.Common.{None, ◌≡◌, ◌∷◌, inl, ℕ, zero, suc, Bool, false, true, Option, Some, [], ap, arith, refl, subst, sym}
 use Rattle.std.specs.Prelude.{replicate, slice_get}
 use Rattle.std.specs.FinMap as map
@@ -59,7 +59,7 @@ use Rattle.laws_two_ends.proofs.ResponseLemmas.{answer_spelled, answered, respon
 use Rattle.laws_two_ends.proofs.SoundnessLemmas.{sound_next, timely_alone, NoSpiIsLost, SoundnessStays}
 use Rattle.laws_two_ends.proofs.Stages.{accepted_world, accepts, agreed_terms, all_keyed, answered_child, answering, answering_table, asking, asking_table, child_world, concludes, end_with, pair_of, reserved_table, second_request, sent_answer, sent_auth, sent_request, sent_response, stored_of, telling, told_world, two_answered, world_of}
 
--- ---- the child
+-- ---- the Child SA
 
 abbrev before_table : Database
 before_table = reserved_table (spi_at A)
@@ -113,7 +113,7 @@ installs = record {
   no_more = omega arith;
 }
 
--- ---- the response is counted
+-- ---- the response is matched
 
 -- what the step has to hand
 abbrev setup : Setup

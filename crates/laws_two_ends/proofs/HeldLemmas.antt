@@ -1,4 +1,4 @@
--- What the tables of the worked run hold is sound, and nothing of its associations is due.
+-- What the tables of the worked run hold is sound, and nothing of its IKE SAs is due.
 use Rattle.std.proofs.Common.{◌≡◌, ◌+◌, ◌≤◌, ◌^◌, ◌||◌, ◌&&◌, inl, inr, ℕ, Bool, ap, arith, refl, subst, sym, ◌∙◌}
 use Rattle.std.specs.Prelude.{not}
 use Rattle.std.proofs.lemmas.Bool.{eq-eqb, ne_eqb}

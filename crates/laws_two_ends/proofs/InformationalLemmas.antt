@@ -1,5 +1,5 @@
--- A request of INFORMATIONAL without payloads is answered without any, and the answer is counted (RFC 7296
--- section 1.4). The association stays as it is, with its pairs.
+-- A request of INFORMATIONAL without payloads is answered without any, and the answer is matched (RFC 7296
+-- section 1.4). The IKE SA stays as it is, with its pairs.
 use Rattle.std.proofs.Common.{◌≡◌, ◌+◌, ◌∷◌, ℕ, Bool, true, false, [], Some, None, ap, arith, refl, subst, sym}
 use Rattle.std.specs.FinMap as map
 use Rattle.std.specs.FinSet as set

@@ -59,7 +59,7 @@ module _ {C : Type 0} (a b : C) where
   pub none_comes_beginning : (response : Bool) (number : ℕ) (octets : Octets) → ComesUnder (λ _. run_meaning) worked_record response number octets (begins a b) → ⊥
   none_comes_beginning response number octets is = is.datagram
 
-  -- B holds no association
+  -- B holds no IKE SA
   pub none_comes_answering : (response : Bool) (number : ℕ) (octets : Octets) → ComesUnder (λ _. run_meaning) worked_record response number octets (answers a b) → ⊥
   none_comes_answering response number octets is = none_found is.held.serial is.association is.held.there
 

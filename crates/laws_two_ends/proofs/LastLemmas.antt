@@ -1,6 +1,6 @@
 -- The last five steps of the worked run take place: a packet is carried, and a probe is answered and its
--- response counted. What comes under the keys had been sent, both ends hold the association, and of the
--- child they hold what the premises on packets ask for.
+-- response matched. What comes under the keys had been sent, both ends hold the IKE SA, and of the
+-- Child SA they hold what the premises on packets ask for.
 use Rattle.std.proofs.Common.{◌≡◌, ◌≤◌, ◌∷◌, inl, ℕ, zero, suc, Bool, true, false, List, [], Option, Some, Contains, ap, arith, refl, subst, sym, ◌∙◌}
 use Rattle.std.specs.FinMap as map
 use Rattle.std.specs.Prelude.{replicate, slice_get}
@@ -306,7 +306,7 @@ module _ {C : Type 0} (a b : C) (response : Octets) where
   never_made_twice one_time A = once_in one_time worked_record _ refl
   never_made_twice one_time B = once_in one_time worked_record _ refl
 
-  -- ---- the child
+  -- ---- the Child SA
 
   abbrev last : Stored
   last = (last_world a b response).stored
@@ -326,7 +326,7 @@ module _ {C : Type 0} (a b : C) (response : Octets) where
   pub answered_held : HoldsSomePairOf answered_child (last_world a b response)
   answered_held = record { pair = pair_of Responder 0 one_taken; held = (lone_in (pair_of Responder 0 one_taken)).there }
 
-  -- no other child of A's sends to B, and none of B's to A
+  -- no other Child SA of A's sends to B, and none of B's to A
   pub alone : HasOneSender answered_child last
   alone = one_sender asked_child answered_child of_one last (one_of_two answered_child asked_child)
 

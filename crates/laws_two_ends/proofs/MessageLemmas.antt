@@ -1,4 +1,4 @@
--- The messages of the worked world are spelled so, and seal their payloads; the two that made the child
+-- The messages of the worked world are spelled so, and seal their payloads; the two that made the Child SA
 -- open to these.
 use Rattle.std.proofs.Common.{◌++◌, ◌∷◌, ℕ, Bool, true, false, List, [], arith, refl}
 use Rattle.std.specs.List.{AllByRecursion}

@@ -1,4 +1,4 @@
--- The probe takes effect at B and is answered, and A counts the response, whatever else B kept.
+-- The probe is processed at B and is answered, and A matches the response, whatever else B kept.
 use Rattle.std.proofs.Common.{◌≡◌, ◌+◌, ℕ, true, false, [], Some, Option, ap, arith, refl, sym}
 use Rattle.std.specs.FinMap as map
 use Rattle.base.specs.Octets.{IsOctet, Octets}

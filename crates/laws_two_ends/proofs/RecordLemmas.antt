@@ -21,7 +21,7 @@ use Rattle.laws_two_ends.specs.Records.{ComesToKeysAsInitiator, ComesToKeysAsRes
 abbrev pub IsSymmetric : (Octets → Octets) → (Octets → Octets → Option Octets) → Type 0
 IsSymmetric public_value shared_secret = (a b : List ℕ) → IsSecret a → IsSecret b → shared_secret a (public_value b) ≡ shared_secret b (public_value a)
 
--- what is read gives the keys that the association has then
+-- what is read gives the keys that the IKE SA has then
 keys_read : (asker : Asker) (setup : Setup) (old : Association) (sent : InitSent) (number : ℕ) (m : Message) (octets request : Octets) (response : Response) (new : Association) (keys : KeyRecord)
     → IsResponse asker.cipher asker.group asker.shared_secret (waiting_of old.spi_i sent) m response
     → Continues asker setup old sent number m octets response (continued.AsksAuth request) new

@@ -1,5 +1,5 @@
 -- How the worked messages of one encrypted payload are spelled (RFC 7296 sections 3.1 to 3.14), and in it
--- what an end says of the child: its proposal, and all traffic. Free tells what may stand in reserved
+-- what an end says of the Child SA: its proposal, and all traffic. Free tells what may stand in reserved
 -- octets. The cipher hides nothing, so the octets of the payloads are the body.
 use Rattle.std.proofs.Common.{◌≡◌, ◌<◌, ◌≤◌, ◌^◌, ◌++◌, ◌∷◌, ℕ, false, true, [], length, ap, arith, refl, sym}
 use Rattle.std.proofs.lemmas.List.{append-nil}

@@ -1,4 +1,4 @@
--- Where no children are stored but both ends of one, no other sends to either.
+-- Where no Child SAs are stored but both ends of one, no other sends to either.
 use Rattle.std.proofs.Common.{◌≡◌, ◌⊎◌, ◌∷◌, inl, inr, [], Contains, ap, subst, ◌∙◌}
 use Rattle.gateway.specs.WorldChildren.{AreEndsOfOneChild, AreOfOneRequest}
 use Rattle.gateway.specs.WorldPackets.{HasOneSender}

@@ -34,7 +34,7 @@ sound_next stays held {C} meaning given stepped old new sound steps table timely
   reservations = held meaning old.entries given old.machine old.table stepped new.machine new.table sound.machine steps sound.reservations;
 }
 
--- a machine at the moment 0 that holds one association
+-- a machine at time 0 that holds one IKE SA
 pub timely_alone : (config : Config) (a : Association) → IsInTime 0 a
     → IsTimely (record (new_machine config) { held = record { next = 2; associations = a ∷ [] } })
 timely_alone config a is zero d less = is

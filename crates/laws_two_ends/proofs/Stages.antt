@@ -45,7 +45,7 @@ use Rattle.laws_two_ends.proofs.RequestLemmas.{after}
 use Rattle.laws_two_ends.proofs.WorkedRecordLemmas.{waiting}
 use Rattle.laws_two_ends.specs.WorkedRuns.{comes_to, config_at, new_end, new_ends, spi_at}
 
--- ---- the associations
+-- ---- the IKE SAs
 
 -- B's, which answered it
 abbrev pub opened : Association
@@ -62,7 +62,7 @@ telling = record waiting {
   phase = phase.AuthSent (record { keys = worked_record; first = answer_octets; child = worked_child });
 }
 
--- B's, once IKE_AUTH took effect, whose response these octets are
+-- B's, once IKE_AUTH was processed, whose response these octets are
 abbrev pub two_taken : Octets → PeerRequests
 two_taken response = record after_number_0 { in_effect = set.insert after_number_0.in_effect 1; kept = map.insert after_number_0.kept 1 response }
 
@@ -87,14 +87,14 @@ probe_request = new_request worked_request Probe 0
 abbrev pub probing : Association
 probing = with_outgoing asking (record asking.outgoing { next = 3; outstanding = map.insert asking.outgoing.outstanding 2 probe_request; room = 0 })
 
--- B's, where that took effect; it keeps this reply alone, since A had the one before (section 2.3)
+-- B's, where that was processed; it keeps this reply alone, since A had the one before (section 2.3)
 abbrev pub three_taken : PeerRequests
 three_taken = record after_number_0 { in_effect = set.insert (two_taken []).in_effect 2; kept = map.insert after_number_0.kept 2 worked_reply }
 
 abbrev pub probed : Association
 probed = widened 1 1 (established (with_incoming opened three_taken))
 
--- A's, which counted that reply
+-- A's, which matched that reply
 abbrev pub counted : Association
 counted = with_outgoing probing (record probing.outgoing {
   answered = set.insert probing.outgoing.answered 2;
@@ -102,7 +102,7 @@ counted = with_outgoing probing (record probing.outgoing {
   room = 1;
 })
 
--- ---- the child
+-- ---- the Child SA
 
 abbrev pub agreed_terms : Terms
 agreed_terms = record { spi_i = spi_at A; spi_r = spi_at B; extended = false; ts_i = any_traffic; ts_r = any_traffic }
@@ -176,7 +176,7 @@ later_table = table_with (spi_at B) (pair_of Responder 0 one_taken)
 
 -- ---- the gateways
 
--- an end that holds this association alone, with this table
+-- an end that holds this IKE SA alone, with this table
 abbrev pub end_with : {C : Type 0} → End → C → Association → Database → State C
 end_with {C} end caller a table = record (new_end end caller) {
   machine = record (new_machine (config_at end)) { held = record { next = 2; associations = a ∷ [] } };
@@ -260,7 +260,7 @@ module _ {C : Type 0} (a b : C) where
     abbrev pub all_keyed : List Keyed
     all_keyed = keyed_by B ∷ keyed_by A ∷ []
 
-    -- after B accepted A's identity, and made the child
+    -- after B accepted A's identity, and made the Child SA
     abbrev pub accepted_world : WorldState C
     accepted_world =
         world_of (end_with A a telling (reserved_table (spi_at A))) (end_with B b (answering response) answering_table)
@@ -269,7 +269,7 @@ module _ {C : Type 0} (a b : C) where
     abbrev pub both_children : List Child
     both_children = answered_child ∷ asked_child ∷ []
 
-    -- after A counted the response, and made the child too
+    -- after A matched the response, and made the Child SA too
     abbrev pub child_world : WorldState C
     child_world =
         world_of (end_with A a asking (asking_table 0)) (end_with B b (answering response) answering_table)
@@ -297,7 +297,7 @@ module _ {C : Type 0} (a b : C) where
         world_of (end_with A a probing (asking_table 1)) (end_with B b probed later_table)
         (stored_of (sent_request ∷ sent_answer ∷ sent_auth ∷ sent_response response ∷ sent_packet ∷ sent_probe ∷ sent_alive ∷ []) all_keyed both_children)
 
-    -- and after A counted that answer
+    -- and after A matched that answer
     abbrev pub last_world : WorldState C
     last_world = record probed_world { a = end_with A a counted (asking_table 1) }
 

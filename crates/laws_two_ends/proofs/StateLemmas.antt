@@ -32,7 +32,7 @@ use Rattle.laws_two_ends.proofs.LedgerLemmas.{the_reply}
 use Rattle.laws_two_ends.proofs.TableLemmas.{none_taken}
 use Rattle.laws_two_ends.proofs.WaitingLemmas.{asked_alone, none_reserved}
 
--- ---- the associations
+-- ---- the IKE SAs
 
 asking_spi : (spi : ℕ) → HoldsSpi asking_association spi → ⊥
 asking_spi spi (inl is) = cc
@@ -118,7 +118,7 @@ asking_as_allowed extended = record {
 pub answering_as_allowed : (kept : Octets) (extended : Bool) → AsksAsAllowed extended (answering_association kept)
 answering_as_allowed kept extended = record { first = λ child asks. absurd cc; further = λ n request further asks. absurd (none_asked n request asks) }
 
--- what went out at the moment 0 and was not repeated
+-- what went out at time 0 and was not repeated
 abbrev first_timer : Timer
 first_timer = record { sent = 0; repeats = 0 }
 
@@ -141,7 +141,7 @@ answering_in_time kept = in_time_if (answering_association kept) refl (omega ari
 
 -- ---- the gateways
 
--- the list has the one association
+-- the list has the one IKE SA
 each_is : (P : Association → Type 0) (a : Association) → P a → (place : ℕ) (b : Association) → slice_get (a ∷ []) place ≡ Some b → P b
 each_is P a holds zero b is = subst P (same_association a b is) holds
 each_is P a holds (suc place) b is = absurd cc

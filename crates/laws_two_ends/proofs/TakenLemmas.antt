@@ -1,4 +1,4 @@
--- Of a peer that has one request under way at most, the next one takes effect, and the reply to it takes
+-- Of a peer that has one request under way at most, the next one is processed, and the reply to it takes
 -- the place of the one before.
 use Rattle.std.proofs.Common.{◌≡◌, ◌≢◌, ◌+◌, ◌||◌, inl, inr, ℕ, Bool, cond, is_some, Some, ap, arith, refl, subst, sym, ◌∙◌}
 use Rattle.std.proofs.lemmas.Bool.{eq-eqb, ne_eqb}
@@ -39,7 +39,7 @@ one_kept number reply =
     let none = map.len-empty nat_cmp Octets in
     omega (arith, len, none)
 
--- all requests below this number took effect
+-- all requests below this Message ID were processed
 module _ (old : PeerRequests) (number : ℕ) (one : old.size ≡ 1) (are : IsUpTo old.in_effect number) where
   pub fresh_next : IsFreshRequest old number
   fresh_next = record {

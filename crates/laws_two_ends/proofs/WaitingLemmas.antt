@@ -24,7 +24,7 @@ waits_by n octets (Some request) found is =
 pub waits_at : (n : ℕ) (octets : Octets) → octets_out asking_association.outgoing n ≡ Some octets → IsOnly 3 probe_octets n octets
 waits_at n octets is = waits_by n octets (map.get asking_association.outgoing.outstanding n) refl is
 
--- it asks for no child, so no SPI is reserved for it
+-- it asks for no Child SA, so no SPI is reserved for it
 pub none_reserved : (number : ℕ) (request : Request) (spi : ℕ) → map.get asking_association.outgoing.outstanding number ≡ Some request
     → spi_asked request.purpose ≡ Some spi → ⊥
 none_reserved number request spi there reserved =

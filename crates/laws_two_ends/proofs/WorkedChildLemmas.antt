@@ -1,4 +1,4 @@
--- The worked world of one child and a probe takes place, and the premises on both ends hold of it.
+-- The worked world of one Child SA and a probe takes place, and the premises on both ends hold of it.
 use Rattle.std.proofs.Common.{◌≡◌, ◌⊎◌, ◌<◌, ◌∷◌, inl, inr, ℕ, zero, suc, Bool, true, false, [], Some, Contains, ap, arith, refl, subst, sym, ◌∙◌}
 use Rattle.std.specs.Prelude.{slice_get}
 use Rattle.std.proofs.lemmas.List.Elements.{Contains-append_left, Contains-push}
@@ -270,7 +270,7 @@ module _ {C : Type 0} (told : SentIsTold) (one_time : OneTime) (one_message : On
     content = refl;
   }
 
-  -- ---- its children
+  -- ---- its Child SAs
 
   asks_for_none : (end : End) (a : Association) → HoldsUnder worked_keys end world a → AsksForItsChildren worked_meaning.body_of worked_keys end a world.stored
   asks_for_none A a holds =

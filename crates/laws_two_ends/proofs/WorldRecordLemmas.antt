@@ -233,7 +233,7 @@ module _ (meaning : Meaning) (setup : Setup) (octets : Octets) (sent : InitSent)
 
 -- ---- the responder
 
--- an offer was taken, and made this association
+-- an offer was taken, and made this IKE SA
 record IsMade (meaning : Meaning) (setup : Setup) (cookies : CookieSecrets) (from octets : Octets) (held : Held) (new : Association) (m : Message) : Type 0 where
   pub offer : OfferView
   pub judged : IsJudged meaning cookies held from m (Accepted offer)
@@ -311,7 +311,7 @@ pub gateway_then : {C : Type 0} (end : End) (gateway : State C) (stored : Stored
 gateway_then {C} A gateway stored w = refl
 gateway_then {C} B gateway stored w = refl
 
--- a datagram came: so the machine of IKE stepped, or its associations are as they were
+-- a datagram came: so the machine of IKE stepped, or its IKE SAs are as they were
 record StepsOn (meaning : Meaning) (entries : List Entry) (from octets : Octets) (fresh : Fresh) (old new : Machine) : Type 0 where
   pub table : Database
   pub new_table : Database

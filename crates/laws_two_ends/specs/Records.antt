@@ -1,4 +1,4 @@
--- How each end of an association comes to its keys in IKE_SA_INIT (RFC 7296 sections 1.2 and 2.14).
+-- How each end of an IKE SA comes to its keys in IKE_SA_INIT (RFC 7296 sections 1.2 and 2.14).
 use Rattle.std.specs.Prelude.{◌≡◌, ℕ, Option, Some}
 use Rattle.base.specs.Octets.{Octets}
 use Rattle.wire.specs.declared.message.Message.{Message}
@@ -17,7 +17,7 @@ use Rattle.initial.specs.Reading.{Asker, ReadsResponse}
 use Rattle.initial.specs.declared.beginning.Admitted.{Admitted}
 use Rattle.initial.specs.declared.reading.Continued.TheVariants as continued
 
--- what an association says of itself in IKE_SA_INIT: its SPI, the value of its key exchange and its nonce
+-- what an IKE SA says of itself in IKE_SA_INIT: its SPI, the value of its key exchange and its nonce
 pub record Introduction : Type 0 where
   pub spi : ℕ
   pub public : Octets
@@ -31,7 +31,7 @@ agreeing_by agreement asker = record asker {
 }
 
 -- The call by which an end came to these keys as initiator: it read a response, and this is what its
--- association holds of itself, and what the response says of the other. That the first goes out, and stays
+-- IKE SA holds of itself, and what the response says of the other. That the first goes out, and stays
 -- through a cookie, the calls that begin and go on say.
 pub record ComesToKeysAsInitiator (asker : Asker) (own other : Introduction) (keys : KeyRecord) : Type 0 where
   pub setup : Setup
@@ -50,7 +50,7 @@ pub record ComesToKeysAsInitiator (asker : Asker) (own other : Introduction) (ke
   pub other_is : other ≡ record { spi = response.header.spi_r; public = parts.public; nonce = parts.nonce }
 
 -- The call by which an end came to these keys as responder: it took an offer, and this is what its answer
--- says of its association, and what the offer says of the other.
+-- says of its IKE SA, and what the offer says of the other.
 pub record ComesToKeysAsResponder (cipher : Cipher) (group : ℕ) (public_value : Octets → Octets) (shared_secret : Octets → Octets → Option Octets) (own other : Introduction) (keys : KeyRecord) : Type 0 where
   pub fresh : Fresh
   pub moment : ℕ

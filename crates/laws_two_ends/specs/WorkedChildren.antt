@@ -1,7 +1,7 @@
 -- A worked world, for which the premises of what is promised of both ends are shown to hold: both ends made
--- one child; A has sealed a packet by its pair of that child, and asked whether B is there. The packet
--- comes to B and goes up; the probe comes to B, takes effect and is answered; and the response comes to A
--- and is counted.
+-- one Child SA; A has sealed a packet by its pair of that child, and asked whether B is there. The packet
+-- comes to B and is delivered; the probe comes to B, is processed and is answered; and the response comes to
+-- A and is counted.
 use Rattle.std.specs.Prelude.{◌≡◌, ◌++◌, ◌∷◌, ℕ, Bool, true, false, None, List, [], Contains}
 use Rattle.std.specs.FinMap as map
 use Rattle.std.specs.FinSet as set
@@ -48,13 +48,13 @@ use Rattle.gateway.specs.declared.world.stored.Protection.TheVariants as mark
 use Rattle.gateway.specs.declared.world.stored.Simplex.{Simplex}
 use Rattle.laws_two_ends.specs.WorkedMessages.{alive_octets, answering_octets, asking_octets, first_answering, first_asking, nonce_of, probe_octets}
 
--- ---- the associations of IKE
+-- ---- the IKE SAs
 
 -- the numbers of the requests that A sent and B answered
 abbrev pub three_numbers : NumberSet
 three_numbers = set.insert first_taken.in_effect 2
 
--- They took effect at B, which keeps the reply to the last one.
+-- They were processed at B, which keeps the reply to the last one.
 abbrev pub three_taken : Octets → PeerRequests
 three_taken reply = record first_taken { in_effect = three_numbers; kept = map.insert first_taken.kept 2 reply }
 
@@ -73,7 +73,7 @@ asking_association = record (worked_association no_requests) {
 abbrev pub answering_association : Octets → Association
 answering_association reply = worked_association (three_taken reply)
 
--- The probe took effect at B as well, which keeps the reply to it alone, since A had the one before
+-- The probe was processed at B as well, which keeps the reply to it alone, since A had the one before
 -- (section 2.3).
 abbrev pub four_numbers : NumberSet
 four_numbers = set.insert three_numbers 3
@@ -84,7 +84,7 @@ four_taken = record first_taken { in_effect = four_numbers; kept = map.insert fi
 abbrev pub probed_association : Association
 probed_association = worked_association four_taken
 
--- and A counted that reply
+-- and A matched that reply
 abbrev pub counted_association : Association
 counted_association = record asking_association {
   outgoing = record asking_association.outgoing {
@@ -94,7 +94,7 @@ counted_association = record asking_association {
   };
 }
 
--- ---- the child
+-- ---- the Child SA
 
 -- what both ends agreed on: A gave the SPI 512, and B 256
 abbrev pub agreed_terms : Terms
@@ -174,7 +174,7 @@ all_protected =
     }
     ∷ []
 
--- a gateway with this association alone, this table and that policy
+-- a gateway with this IKE SA alone, this table and that policy
 abbrev pub gateway_of : {C : Type 0} → Config → C → Association → Database → State C
 gateway_of {C} config caller a table = record (gateway_with config caller a) { table = table; entries = all_protected }
 
@@ -200,7 +200,7 @@ sent_so_far request reply asks answers by carried probe =
     ∷ datagram_of A (mark.Ike worked_keys false 3) probe
     ∷ []
 
--- Both came to the keys, and both made the child.
+-- Both came to the keys, and both made the Child SA.
 abbrev pub worked_stored : Stored
 worked_stored = record {
   sent = sent_so_far first_asking first_answering asking_octets answering_octets (simplex_of carrying) carried_octets probe_octets;
@@ -237,7 +237,7 @@ abbrev pub probed_world : {C : Type 0} → Config → C → WorldState C
 probed_world {C} config caller =
     record (delivered_world config caller) { b = gateway_of config caller probed_association later_table; stored = probed_stored }
 
--- and then A counted the response
+-- and then A matched the response
 abbrev pub counted_world : {C : Type 0} → Config → C → WorldState C
 counted_world {C} config caller = record (probed_world config caller) { a = gateway_of config caller counted_association (asking_table 1) }
 
@@ -261,13 +261,13 @@ abbrev pub all_arrive : {C : Type 0} → Config → C → Octets → Fresh → L
 all_arrive {C} config caller from fresh =
     packet_arrives config caller ∷ probe_arrives config caller from fresh ∷ response_arrives config caller from fresh ∷ []
 
--- This takes place in a world that is sound under the keys and accounts for its windows, children and
+-- This takes place in a world that is sound under the keys and accounts for its windows, Child SAs and
 -- pairs, of two gateways whose states are sound; no run from new ones leads there, since this caller agrees
 -- on no secret (a run from new ones stands in the crate above). The probe and its response come under the
 -- keys; no message that does so was forged, and neither end came to them twice. No packet to the child was
 -- forged at either end, and it has one sender each way. Both ends made the child, by one request under the
--- keys, and hold a pair of it; and both hold the association afterwards, in both directions. The packet
--- goes up by the pair of the end that answered for the child.
+-- keys, and hold a pair of it; and both hold the IKE SA afterwards, in both directions. The packet
+-- is delivered by the pair of the end that answered for the child.
 pub record IsWorkedLink {C : Type 0} (config : Config) (caller : C) (from : Octets) (fresh : Fresh) : Type 0 where
   pub trail : IsWorldTrail (λ _. worked_meaning) (sealed_world config caller) (all_arrive config caller from fresh) (counted_world config caller)
   pub can_be : CanBeMeant worked_meaning

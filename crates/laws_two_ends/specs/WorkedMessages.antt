@@ -1,5 +1,5 @@
 -- The messages of the worked world, as payloads and as octets (RFC 7296 sections 1.3.1, 1.4 and 3.1 to
--- 3.14): the two of number 1, the two of CREATE_CHILD_SA by which the worked child is made, and the two of
+-- 3.14): the two of number 1, the two of CREATE_CHILD_SA by which the worked Child SA is made, and the two of
 -- the probe. The cipher hides nothing, so the octets of the payloads are the body.
 use Rattle.std.specs.Prelude.{◌++◌, ◌∷◌, ℕ, false, List, [], replicate}
 use Rattle.base.specs.Octets.{Octets}

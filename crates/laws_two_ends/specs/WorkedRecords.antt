@@ -47,8 +47,8 @@ pub record IsFresh (fresh : Fresh) : Type 0 where
   pub seal_long : length fresh.seal ≡ 16
   pub seal_octets : AreOctets fresh.seal
 
--- Both calls are of one exchange. The initiator's association is as it began, and no cookie was asked for.
--- The responder judged the very octets that the association sent, and accepted what they offer. The
+-- Both calls are of one exchange. The initiator's IKE SA is as it began, and no cookie was asked for.
+-- The responder judged the very octets that the IKE SA sent, and accepted what they offer. The
 -- initiator reads the very octets with which the responder's call answers.
 pub record AreOfOneExchange (asker : Asker) (fresh : Fresh) (own other : Introduction) (keys : KeyRecord) (asks : ComesToKeysAsInitiator asker own other keys)
     (answers : ComesToKeysAsResponder asker.cipher asker.group asker.public_value asker.shared_secret other own keys) : Type 0 where
@@ -59,12 +59,12 @@ pub record AreOfOneExchange (asker : Asker) (fresh : Fresh) (own other : Introdu
   pub beginning : Beginning
   pub begins : Begins asker.cipher asker.group asker.public_value fresh moment beginning
   pub began : asks.old ≡ begun serial beginning child
-  -- the request that goes out, that the association waits to be answered, and that the responder has
+  -- the request that goes out, that the IKE SA waits to be answered, and that the responder has
   pub sent : beginning.octets ≡ answers.request
   pub waiting : Request
   pub outstanding : map.get asks.old.outgoing.outstanding asks.number ≡ Some waiting
   pub one_request : waiting.octets ≡ answers.request
-  -- what it says, and that this offer is what was accepted of it, by a responder that has no association yet
+  -- what it says, and that this offer is what was accepted of it, by a responder that has no IKE SA yet
   pub asked : Message
   pub asked_spelled : Spells asked answers.request
   pub sender : Sender
@@ -110,7 +110,7 @@ reading_fresh = fresh_of 3
 abbrev pub introduction_of : Fresh → Introduction
 introduction_of fresh = record { spi = fresh.spi; public = worked_asker.public_value fresh.secret; nonce = fresh.nonce }
 
--- the keys of the association (RFC 7296 section 2.14)
+-- the keys of the IKE SA (RFC 7296 section 2.14)
 abbrev pub worked_record : KeyRecord
 worked_record = ike_keys (replicate 32 0) beginning_fresh.nonce answering_fresh.nonce beginning_fresh.spi answering_fresh.spi
 

@@ -1,5 +1,5 @@
 -- A worked run of a world, for which the premises of what is promised of both ends are shown to hold. It
--- begins with two new gateways: they set up an association and its first child, a packet goes from A to B,
+-- begins with two new gateways: they set up an IKE SA and its first Child SA, a packet goes from A to B,
 -- and A's probe is answered (RFC 7296 sections 1.2, 1.4, 2.4, 2.14 and 2.15; RFC 4301 sections 5.1 and 5.2;
 -- RFC 4303 sections 3.3 and 3.4).
 use Rattle.std.specs.Prelude.{◌≡◌, ◌≤◌, ◌∷◌, false, true, ℕ, None, Some, List, [], Contains, length, map, replicate, slice_get}
@@ -71,7 +71,7 @@ abbrev pub config_at : End → Config
 config_at A = config_by 1 2
 config_at B = config_by 2 1
 
--- the first SPI that an end gives to a child
+-- the first SPI that an end gives to a Child SA
 abbrev pub spi_at : End → ℕ
 spi_at A = 256
 spi_at B = 512
@@ -120,8 +120,8 @@ pub record Exchanged : Type 0 where
 abbrev pub comes_to : End → Octets → ℕ → Event
 comes_to end octets number = record { end = end; input = input.Ike (config_at (other_end end)).own.address octets (fresh_of number) }
 
--- A is ordered to set up an association with a first child, by the first entry; the four messages come as
--- they were sent. Then a packet goes out at A and comes to B; A is ordered to ask whether B is there, and
+-- A is told to set up an IKE SA with a first Child SA, by the first entry; the four messages come as
+-- they were sent. Then a packet goes out at A and comes to B; A is told to ask whether B is there, and
 -- the request and its response come.
 abbrev pub events_of : Exchanged → List Event
 events_of e =
@@ -155,10 +155,10 @@ outputs_of e =
 -- There is such a run, for a caller that there can be, of two gateways that are rightly set up and hold
 -- nothing, whose world is wholly sound under every key record. What comes under the record of keys which
 -- both ends come to, the other end had sent before, and neither end comes to it twice: B as responder and A
--- as initiator, each from what the other says of itself. At the end each holds the association,
--- established, with one place counted for the other's requests; A's probe took effect at B, and was
--- answered and counted. Both ends make the child, by the one request of IKE_AUTH, and hold a pair of it at
--- the end, which has one sender each way; what is judged at B was sent by A. The packet goes up by B's
+-- as initiator, each from what the other says of itself. At the end each holds the IKE SA,
+-- established, with one place counted for the other's requests; A's probe was processed at B, and was
+-- answered and matched. Both ends make the Child SA, by the one request of IKE_AUTH, and hold a pair of it at
+-- the end, which has one sender each way; what is judged at B was sent by A. The packet is delivered by B's
 -- pair. Nothing but answers goes from B to A, so of the child at A and of requests of B the premises hold,
 -- and say nothing.
 pub record IsRunFromNewGateways {C : Type 0} (a b : C) : Type 0 where
@@ -187,7 +187,7 @@ pub record IsRunFromNewGateways {C : Type 0} (a b : C) : Type 0 where
   pub initiator_step : Happening C
   pub reads : slice_get happenings 2 ≡ Some initiator_step
   pub as_initiator : CameToKeysAsInitiator run_meaning.public_value initiator_step (introduction_of (fresh_of 1)) (introduction_of (fresh_of 2)) worked_record
-  -- the association at the end, and what comes under its keys
+  -- the IKE SA at the end, and what comes under its keys
   pub asking : Association
   pub answering : Association
   pub held : AreBothHeld worked_record A last asking answering
@@ -204,7 +204,7 @@ pub record IsRunFromNewGateways {C : Type 0} (a b : C) : Type 0 where
   pub counting_step : Happening C
   pub counts : slice_get happenings 9 ≡ Some counting_step
   pub response_comes : ComesUnder (λ _. run_meaning) worked_record true 2 exchanged.probe_response counting_step
-  -- the child
+  -- the Child SA
   pub asked : Child
   pub answered : Child
   pub asked_there : Contains last.stored.children asked

@@ -18,7 +18,7 @@ use Rattle.gateway.specs.Worlds.{gateway_at, WorldState}
 use Rattle.gateway.specs.declared.world.stored.End.{End}
 use Rattle.laws_two_ends.specs.Records.{Introduction}
 
--- all associations of an end, in the order in which they were made
+-- all IKE SAs of an end, in the order in which they were made
 abbrev pub associations_at : {C : Type 0} → End → WorldState C → List Association
 associations_at {C} end w = (gateway_at end w).machine.held.associations
 
@@ -31,9 +31,9 @@ pub record SaysOfSender (spi_of : Header → ℕ) (octets : Octets) (sender : In
   pub complete : HasParts message.payloads parts
   pub is : sender ≡ record { spi = spi_of message.header; public = parts.public; nonce = parts.nonce }
 
--- A datagram came to an end, and an association that waited for the response to IKE_SA_INIT has these keys
--- from then on: this is what the association held of itself, and what the datagram says of its sender. A
--- datagram leaves each association at its place.
+-- A datagram came to an end, and an IKE SA that waited for the response to IKE_SA_INIT has these keys
+-- from then on: this is what the IKE SA held of itself, and what the datagram says of its sender. A
+-- datagram leaves each IKE SA at its place.
 pub record CameToKeysAsInitiator {C : Type 0} (public_value : Octets → Octets) (h : Happening C) (own other : Introduction) (keys : KeyRecord) : Type 0 where
   pub from : Octets
   pub octets : Octets
@@ -51,7 +51,7 @@ pub record CameToKeysAsInitiator {C : Type 0} (public_value : Octets → Octets)
   pub own_is : own ≡ record { spi = old.spi_i; public = public_value sent.secret; nonce = sent.nonce }
   pub other_is : SaysOfSender (λ header. header.spi_r) octets other
 
--- A datagram came to an end, and made an association that has these keys: this is what it holds of itself,
+-- A datagram came to an end, and made an IKE SA that has these keys: this is what it holds of itself,
 -- which is fresh, and what the datagram says of its sender.
 pub record CameToKeysAsResponder {C : Type 0} (public_value : Octets → Octets) (h : Happening C) (own other : Introduction) (keys : KeyRecord) : Type 0 where
   pub from : Octets

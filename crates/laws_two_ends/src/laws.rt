@@ -39,7 +39,7 @@ use suite::{Agreement, Proof, Sealer};
 use wire::laws::octets_spell_one_message;
 
 /// Where one call gave an end its keys as initiator, and one call an end as responder, each from the SPI,
-/// the value of the key exchange and the nonce that the other's association holds of itself (RFC 7296,
+/// the value of the key exchange and the nonce that the other's IKE SA holds of itself (RFC 7296,
 /// section 2.14), both have one record of keys: by the agreement's law alone, whatever else the messages
 /// had, and whatever ciphers and groups the ends ask for.
 pub fn both_ends_make_one_record<C: Agreement>(caller: &C)
@@ -60,7 +60,7 @@ pub fn the_premises_of_one_record_are_met()
 {}
 
 /// What took place in a world, in whatever order (as `gateway::run_world` tells it by a history): where an
-/// association of one step came to its keys as initiator, and one of another step as responder, each from
+/// IKE SA of one step came to its keys as initiator, and one of another step as responder, each from
 /// the SPI, the value of the key exchange and the nonce that the other holds of itself, both have one
 /// record of keys (RFC 7296, section 2.14). It asks neither that the world is sound nor that nothing was
 /// forged, and the steps may be those of whichever ends.
@@ -81,7 +81,7 @@ pub fn the_ends_of_a_world_make_one_record<C: Sealer + Agreement + Proof>(caller
 }
 
 /// In a wholly sound world, as `gateway::run_world` keeps it, no more requests of an end wait for their
-/// answer than the other end is set to take at once, of each association that one of them holds as
+/// answer than the other end is set to take at once, of each IKE SA that one of them holds as
 /// initiator and the other as responder (RFC 7296, section 2.3).
 pub fn no_more_waits_than_the_other_end_takes<C: Sealer + Agreement + Proof>()
     ensures { (keys : KeyRecord) (world : WorldState C) → IsWhollySound C.body_of C.plain_of keys world
@@ -109,10 +109,10 @@ pub fn what_goes_out_is_stored<C>()
         → (datagram_at (first ∷ others) 0 ≡ None) × (datagram_at (first ∷ others) 1 ≡ Some first.octets) }
 {}
 
-/// The premises of what is promised of the requests, windows, children and packets of both ends are met by
-/// a world in which each end made its pair of one further child, and the end which asked for it has sealed
-/// a packet by it and sent a probe: the packet comes to the end that answered, and goes up; the probe comes
-/// there too, takes effect and is answered, and the response is counted. So it is whatever the
+/// The premises of what is promised of the requests, windows, Child SAs and packets of both ends are met by
+/// a world in which each end made its pair of one additional Child SA, and the end which asked for it has
+/// sealed a packet by it and sent a probe: the packet comes to the end that answered, and is delivered; the
+/// probe comes there too, is processed and is answered, and the response is matched. So it is whatever the
 /// configuration, the caller's value and the peer's address; the caller's cipher hides nothing, and all
 /// laws of its traits hold.
 pub fn the_premises_of_both_ends_are_met<C>()
@@ -124,11 +124,11 @@ pub fn the_premises_of_both_ends_are_met<C>()
 }
 
 /// The premises of what is promised of both ends of a world are met, all at once, by a run of one that
-/// begins with two new gateways: an association is set up by IKE_SA_INIT and IKE_AUTH, with its first child
+/// begins with two new gateways: an IKE SA is set up by IKE_SA_INIT and IKE_AUTH, with its first Child SA
 /// (RFC 7296, section 1.2); a packet goes out at the end that asked for the child, comes to the other and
-/// goes up there; and that end asks whether the other is there (section 2.4), which answers. Every datagram
-/// comes once, as it was sent, and nothing but answers goes the other way. So it is for whatever values of
-/// whatever type: what the callers mean is fixed, hides nothing, and keeps the laws of the traits.
+/// is delivered there; and that end asks whether the other is there (section 2.4), which answers. Every
+/// datagram comes once, as it was sent, and nothing but answers goes the other way. So it is for whatever
+/// values of whatever type: what the callers mean is fixed, hides nothing, and keeps the laws of the traits.
 pub fn the_premises_are_met_from_new_gateways_on<C>()
     ensures { (a b : C) → IsRunFromNewGateways a b }
 {

@@ -1,8 +1,8 @@
-//! What the two ends of one IKE association have in common, and what meets the premises of it, as laws
+//! What the two ends of one IKE SA have in common, and what meets the premises of it, as laws
 //! alone.
 //!
 //! [`laws::both_ends_make_one_record`] says that both have one record of keys where what each read of the
-//! other in IKE_SA_INIT is what the other's association holds of itself,
+//! other in IKE_SA_INIT is what the other's IKE SA holds of itself,
 //! [`laws::the_ends_of_a_world_make_one_record`] says the same of the steps of a world of two gateways, and
 //! [`laws::the_premises_of_one_record_are_met`] that two ends can come to that by one exchange. What holds
 //! of two ends that have one record, their requests in step among it, stands in `lockstep` and `gateway`;
@@ -11,8 +11,8 @@
 //!
 //! Two worked worlds of two gateways meet the premises of what is promised of both ends:
 //! [`laws::the_premises_are_met_from_new_gateways_on`] has one that begins with new gateways, and
-//! [`laws::the_premises_of_both_ends_are_met`] one that begins in the middle, where the association and the
-//! child are there.
+//! [`laws::the_premises_of_both_ends_are_met`] one that begins in the middle, where the IKE SA and the
+//! Child SA are there.
 #![tactic(auto)]
 
 pub mod laws;

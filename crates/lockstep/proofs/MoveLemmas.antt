@@ -221,7 +221,7 @@ module _ (l : Ledger) (sent others : List Entry) (sound : IsSoundLedger l sent o
   wide_window role number new (inl same) = (let some = sound.windows.window.some in let most = sound.windows.window.most in let is = same.1 in record { some = omega arith; most = omega arith })
   wide_window role number new (inr widens) = (let some = sound.windows.window.some in let wider = widens.peers_wider in record { some = omega arith; most = widens.peers_most })
 
-  -- ---- a response is counted
+  -- ---- a response is matched
 
   found_unanswered : (number : ℕ) → number < l.next → FoundGap (set.insert l.answered number) sound.windows.unanswered l.next
   found_unanswered number less =
@@ -287,7 +287,7 @@ module _ (l : Ledger) (sent others : List Entry) (sound : IsSoundLedger l sent o
     });
   }
 
-  -- ---- a request takes effect
+  -- ---- a request is processed
 
   taken_within : (number : ℕ) (reply : Octets) (new : Ledger) → TakesEffectOnce number reply l new → IsWithinWindows new
   taken_within number reply new is =
@@ -371,7 +371,7 @@ module _ (l : Ledger) (sent others : List Entry) (sound : IsSoundLedger l sent o
     response = λ n a b one other. taken_again number reply n a b is.not_yet once (response_after_response sent number reply n a one) (response_after_response sent number reply n b other);
   }
 
-  -- ---- the association is closed
+  -- ---- the IKE SA is closed
 
   pub closed_sound : (new : Ledger) → ClosesLedger l new → IsSoundLedger new sent others
   closed_sound new is = subst (λ (x : Ledger). IsSoundLedger x sent others) (sym is.content) (record {

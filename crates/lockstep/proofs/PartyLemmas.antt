@@ -117,7 +117,7 @@ module _ (keys : KeyRecord) (turn : Turn) (old new : Party) (takes : TakesTurn t
   was_or_comes serial l holds (Some was) there =
       inl (record { ledger = was; holds = record { there = there; keyed = sym (takes.keys_stay serial was l there holds.there) ∙ holds.keyed } })
 
-  -- ---- the association that is held under them
+  -- ---- the IKE SA that is held under them
 
   module _ (serial : ℕ) (l : Ledger) (holds : Holds new keys serial l) where
     as_it_was : IsSoundEnd (end_of (old.ledgers serial) (times keys old.made) (under keys old.sent)) others

@@ -1,4 +1,4 @@
--- One end of an association that has keys: its numbers, and what it sent under these keys (RFC 7296
+-- One end of an IKE SA that has keys: its Message IDs, and what it sent under these keys (RFC 7296
 -- sections 2.1 to 2.3).
 use Rattle.std.specs.Prelude.{◌≡◌, ◌+◌, ◌++◌, ◌∷◌, ℕ, Bool, true, false, Option, Some, None, List, []}
 use Rattle.std.specs.List.{AllByRecursion}
@@ -20,7 +20,7 @@ abbrev pub response_of : ℕ → Octets → Entry
 response_of number octets = record { response = true; number = number; octets = octets }
 
 pub record End : Type 0 where
-  -- none before the end has come to the keys, and none once it has let the association go
+  -- none before the end has come to the keys, and none once it has let the IKE SA go
   pub ledger : Option Ledger
   -- how often it came to keys
   pub made : ℕ

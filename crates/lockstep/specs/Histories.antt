@@ -45,7 +45,7 @@ abbrev pub AreGenuine : List Entry → List Move → Type 0
 AreGenuine sent [] = Unit {0}
 AreGenuine sent (move ∷ others) = IsGenuineMove sent move × AreGenuine sent others
 
--- The premise that no message was forged: what takes effect or is counted at one end was sent by the other.
+-- The premise that no message was forged: what is processed or matched at one end was sent by the other.
 -- It asks for what was sent till the list ends, which these ends tell.
 abbrev pub IsGenuine : Ends → List Step → Type 0
 IsGenuine last [] = Unit {0}
@@ -59,7 +59,7 @@ IsGenuineAtOnce one other (AtOne deed ∷ steps) = AreGenuine other deed.moves �
 IsGenuineAtOnce one other (AtOther deed ∷ steps) = AreGenuine one deed.moves × IsGenuineAtOnce one (other ++ sent_in deed.moves ++ deed.again) steps
 
 -- These steps lead from the old ends to the new ones, no message was forged, and neither end came to keys
--- more than once. (Of many associations see Parties, which counts by key record.)
+-- more than once. (Of many IKE SAs see Parties, which counts by key record.)
 pub record IsHistory (old : Ends) (steps : List Step) (new : Ends) : Type 0 where
   pub run : IsRun old steps new
   pub genuine : IsGenuine new steps

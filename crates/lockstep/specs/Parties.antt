@@ -1,6 +1,6 @@
--- An end that holds many associations, and what it stores of them: all that it sent under any keys, and all
+-- An end that holds many IKE SAs, and what it stores of them: all that it sent under any keys, and all
 -- keys that it came to. Of what it does under one key record is said what is said of an end that holds one
--- association (RFC 7296 sections 2.1 to 2.4 and 2.14).
+-- IKE SA (RFC 7296 sections 2.1 to 2.4 and 2.14).
 use Rattle.std.specs.Prelude.{◌≡◌, ◌⊎◌, ◌+◌, ◌≤◌, ◌++◌, ◌∷◌, ℕ, Bool, Option, Some, None, List, [], Contains, length, nat_eq, if◌then◌else◌}
 use Rattle.std.specs.Cmp.Lexicographic.{pointwise}
 use Rattle.base.specs.Octets.{Octets}
@@ -17,7 +17,7 @@ pub record Marked : Type 0 where
   pub entry : Entry
 
 pub record Party : Type 0 where
-  -- by the serials of the associations
+  -- by the serials of the IKE SAs
   pub ledgers : ℕ → Option Ledger
   pub made : List KeyRecord
   pub sent : List Marked
@@ -39,12 +39,12 @@ abbrev pub times : KeyRecord → List KeyRecord → ℕ
 times keys [] = 0
 times keys (k ∷ ks) = (if same_keys keys k then 1 else 0) + times keys ks
 
--- an association is held under these keys
+-- an IKE SA is held under these keys
 pub record Holds (p : Party) (keys : KeyRecord) (serial : ℕ) (l : Ledger) : Type 0 where
   pub there : p.ledgers serial ≡ Some l
   pub keyed : l.keys ≡ keys
 
--- an association comes to keys
+-- an IKE SA comes to keys
 pub record Coming : Type 0 where
   pub serial : ℕ
   pub keys : KeyRecord
@@ -53,20 +53,20 @@ abbrev pub keys_come : Option Coming → List KeyRecord
 keys_come None = []
 keys_come (Some coming) = coming.keys ∷ []
 
--- What a party does in a step: the moves of each association, the keys that come, and what is sent.
+-- What a party does in a step: the moves of each IKE SA, the keys that come, and what is sent.
 pub record Turn : Type 0 where
   pub moves : ℕ → List Move
   pub coming : Option Coming
   pub sent : List Marked
 
--- what is sent is of an association that is held under its keys, by a move or again
+-- what is sent is of an IKE SA that is held under its keys, by a move or again
 pub record IsSentNow (turn : Turn) (old new : Party) (keys : KeyRecord) (entry : Entry) : Type 0 where
   pub serial : ℕ
   pub ledger : Ledger
   pub holds : Holds new keys serial ledger
   pub by : (Contains (sent_in (turn.moves serial)) entry) ⊎ (GoesOutAgain (old.ledgers serial) entry)
 
--- The moves lead each association from its old ledger to its new one, two at most, and leave it the keys
+-- The moves lead each IKE SA from its old ledger to its new one, two at most, and leave it the keys
 -- that it has. Keys come where the step says so, and what is sent is what the moves say, or goes out again.
 pub record TakesTurn (turn : Turn) (old new : Party) : Type 0 where
   pub few : (serial : ℕ) → length (turn.moves serial) ≤ 2
@@ -90,7 +90,7 @@ pub record HasNone (p : Party) (keys : KeyRecord) : Type 0 where
   pub sent : (entry : Entry) → ¬ Contains (under keys p.sent) entry
 
 -- What holds of a party under these keys, where this is what the peer sent under them till now, or till
--- later: one association at most is held under them, which came to them, and it is sound.
+-- later: one IKE SA at most is held under them, which came to them, and it is sound.
 pub record IsSoundParty (keys : KeyRecord) (p : Party) (others : List Entry) : Type 0 where
   pub unmade : times keys p.made ≡ 0 → HasNone p keys
   pub alone : (s t : ℕ) (l m : Ledger) → Holds p keys s l → Holds p keys t m → s ≡ t
@@ -106,13 +106,13 @@ pub record AreSoundParties (keys : KeyRecord) (parties : Parties) : Type 0 where
   pub one : IsSoundParty keys parties.one (under keys parties.other.sent)
   pub other : IsSoundParty keys parties.other (under keys parties.one.sent)
 
--- a party that holds no association, and stored nothing
+-- a party that holds no IKE SA, and stored nothing
 pub record IsNewParty (p : Party) : Type 0 where
   pub none : (serial : ℕ) → p.ledgers serial ≡ None
   pub made : p.made ≡ []
   pub sent : p.sent ≡ []
 
--- Each of two parties holds an association under these keys, one of them as its initiator and one as its
+-- Each of two parties holds an IKE SA under these keys, one of them as its initiator and one as its
 -- responder.
 pub record AreHeldUnder (keys : KeyRecord) (parties : Parties) (asking answering : Ledger) : Type 0 where
   pub asks : ℕ

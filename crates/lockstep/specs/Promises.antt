@@ -1,4 +1,4 @@
--- What is promised of two ends that hold one association, in each direction: of the requests of one of them
+-- What is promised of two ends that hold one IKE SA, in each direction: of the requests of one of them
 -- (RFC 7296 sections 2.1 to 2.3).
 use Rattle.std.specs.Prelude.{◌≡◌, ◌⊎◌, ◌↔◌, ◌+◌, ◌<◌, ◌≤◌, ℕ, zero, suc, Some, if◌then◌else◌}
 use Rattle.std.specs.FinSet as set
@@ -8,7 +8,7 @@ use Rattle.effects.specs.Moves.{Ledger}
 use Rattle.lockstep.specs.Histories.{Ends}
 use Rattle.lockstep.specs.Soundness.{IsWide}
 
--- One end holds the association by the one ledger and the other by the other, one of them as its initiator
+-- One end holds the IKE SA by the one ledger and the other by the other, one of them as its initiator
 -- and one as its responder.
 pub record AreHeld (ends : Ends) (asking answering : Ledger) : Type 0 where
   pub held : ((ends.one.ledger ≡ Some asking) × (ends.other.ledger ≡ Some answering)) ⊎ ((ends.other.ledger ≡ Some asking) × (ends.one.ledger ≡ Some answering))

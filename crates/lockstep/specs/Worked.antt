@@ -32,7 +32,7 @@ asked_ledger keys request = record (first_ledger keys Initiator) {
   outstanding = put (put (first_ledger keys Initiator).outstanding 1 (Some request)) 1 None;
 }
 
--- the responder, once it took effect
+-- the responder, once it was processed
 abbrev pub answered_ledger : KeyRecord → Octets → Ledger
 answered_ledger keys reply = record (first_ledger keys Responder) {
   in_effect = zero_and_one;
@@ -59,7 +59,7 @@ worked_ends keys request reply = record {
 abbrev pub new_party : Party
 new_party = record { ledgers = λ serial. None; made = []; sent = [] }
 
--- the first association of a party comes to keys and asks
+-- the first IKE SA of a party comes to keys and asks
 abbrev pub worked_turn : KeyRecord → Octets → Turn
 worked_turn keys request = record {
   moves = λ serial. if serial == 1 then Make keys ∷ Issue 1 request ∷ [] else [];

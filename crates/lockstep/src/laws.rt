@@ -81,8 +81,8 @@ pub fn windows_of_one_keep_in_step()
         → AreHeld new asking answering → asking.window ≡ 1 → AreInStep asking answering }
 {}
 
-/// With a window of one the requests take effect in the order of their numbers, and so are they answered:
-/// each is the least that was not yet.
+/// With a window of one the requests are processed in the order of their Message IDs, and so are they
+/// answered: each is the least that was not yet.
 pub fn windows_of_one_keep_order()
     ensures taken { (old new : Ledger) (sent others : List Entry) (number : ℕ) (reply : Octets)
         → IsSoundLedger old sent others
@@ -93,7 +93,7 @@ pub fn windows_of_one_keep_order()
 {}
 
 /// What a sound end put into effect or counts as answered was sent by the other, also where that one let
-/// the association go.
+/// the IKE SA go.
 pub fn what_is_taken_was_sent()
     ensures in_effect { (e : End) (l : Ledger) (others : List Entry) (n : ℕ) → IsSoundEnd e others
         → e.ledger ≡ Some l
@@ -124,7 +124,7 @@ pub fn what_was_sent_under_keys_is_told()
         → times keys (made ++ more) ≡ times keys made + times keys more }
 {}
 
-/// A party that holds many associations stays sound under each key record by its turns alone, where what
+/// A party that holds many IKE SAs stays sound under each key record by its turns alone, where what
 /// they take under it is among what the peer will have sent under it, and the party comes to it once. It is
 /// so too where the peer will have sent more.
 pub fn each_party_stays_sound()
@@ -152,7 +152,7 @@ pub fn parties_stay_sound()
         → times keys new.other.made ≤ 1 → AreSoundParties keys new }
 {}
 
-/// Where two sound parties hold an association each under the same keys, it is with these as with two ends,
+/// Where two sound parties hold an IKE SA each under the same keys, it is with these as with two ends,
 /// in each direction.
 pub fn parties_keep_in_step()
     ensures issued { (keys : KeyRecord) (parties : Parties) (asking answering : Ledger)
@@ -167,7 +167,7 @@ pub fn parties_keep_in_step()
 {}
 
 /// The premises are met by two ends that come to the same keys, of which one asks and the other answers,
-/// twice with the same octets; and what is asked of a turn by a party whose first association comes to keys
+/// twice with the same octets; and what is asked of a turn by a party whose first IKE SA comes to keys
 /// and asks.
 pub fn premises_are_met()
     ensures history { (keys : KeyRecord) (request reply : Octets)

@@ -1,8 +1,8 @@
-//! Two ends of one IKE association, by their moves alone (RFC 7296 sections 2.1 to 2.3).
+//! Two ends of one IKE SA, by their moves alone (RFC 7296 sections 2.1 to 2.3).
 //!
 //! The crate knows keys, numbers and octets, and no payload, gateway or datagram. It has no code that runs:
 //! its [`laws`] say what holds of two ends over every list of steps of either, in any order, as long as
-//! what takes effect or is counted at one of them was sent by the other, and neither came to keys more than
+//! what is processed or matched at one of them was sent by the other, and neither came to keys more than
 //! once. In each direction:
 //!
 //! - What is in effect at one end was issued by the other, and what is answered there is in effect here.
@@ -13,7 +13,7 @@
 //!   but the last, and none is skipped.
 //! - All that an end sends with one number is one request, and one response.
 //!
-//! The same holds of two parties that hold many associations, for each key record under which both hold
+//! The same holds of two parties that hold many IKE SAs, for each key record under which both hold
 //! one.
 //!
 //! What an end is and does stands in `specs/Ends`, a list of steps and its premises in `specs/Histories`,
@@ -23,7 +23,7 @@
 //! # How it is proved
 //!
 //! A `Ledger` is what is seen of an IKE SA with keys without reading a payload: keys, role, whether it is
-//! closed, both ends' Message IDs, kept responses, and the octets that wait. Timers are not in it, so a
+//! closed, both ends' Message IDs, cached responses, and the octets that wait. Timers are not in it, so a
 //! retransmission is no move. The crate `effects` has the moves of a message, with one ledger between the
 //! two moves of a step, and `ike` finds the IKE SA with a serial before and after.
 //!

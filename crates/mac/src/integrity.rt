@@ -10,8 +10,8 @@ use std::marker::Model;
 
 /// A key of 32 octets prepared for HMAC-SHA-256-128 (RFC 4868).
 ///
-/// A contract sees the key's octets. A check value over n octets costs ceil((n + 9) / 64) + 1
-/// compressions of SHA-256.
+/// A contract sees the key's octets. An ICV over n octets costs ceil((n + 9) / 64) + 1 compressions of
+/// SHA-256.
 #[derive(Drop)]
 pub struct IcvKey {
     key: HmacKey,

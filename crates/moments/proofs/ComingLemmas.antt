@@ -1,4 +1,4 @@
--- Where something is due, a moment sends, closes or removes something.
+-- Where something is due, a tick sends, closes or removes something.
 use Rattle.std.proofs.Common.{◌≡◌, ◌<◌, ◌≤◌, ◌++◌, ◌∷◌, [], ℕ, List, map, Bool, true, false, cond, Some, arith, sym, ap, ◌∙◌, refl, inl, inr, length, length-append}
 use Rattle.std.proofs.lemmas.Bool.Decides.{eqb_tells}
 use Rattle.std.proofs.lemmas.Option.{none-some, same_Some}

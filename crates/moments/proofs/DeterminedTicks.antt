@@ -1,4 +1,4 @@
--- What a moment brings goes by what is held.
+-- What a tick brings goes by what is held.
 use Rattle.std.proofs.Common.{◌≡◌, ◌++◌, ◌∷◌, [], ℕ, List, map, Bool, true, false, sym, ap, ◌∙◌, subst}
 use Rattle.std.proofs.lemmas.List.{map-append}
 use Rattle.std.specs.FinMap as numbers
@@ -21,7 +21,7 @@ abbrev pub EndsAlike : Type 0
 EndsAlike = (old other a b : Association) (old_table other_table a_table b_table : Database) (moment : ℕ) → association_content old ≡ association_content other → table_content old_table ≡ table_content other_table
     → Closes old old_table moment a a_table → Closes other other_table moment b b_table → (association_content a ≡ association_content b) × (table_content a_table ≡ table_content b_table)
 
--- two outcomes are one, but for room
+-- two outcomes are one, but for spare capacity
 pub record AreAlike (sent again : List Resent) (closed ended : List ℕ) (held kept : List Association) (table another : Database) : Type 0 where
   pub sent_same : sent ≡ again
   pub closed_same : closed ≡ ended

@@ -1,4 +1,4 @@
--- What is due of one association, number by number.
+-- What is due of one IKE SA, Message ID by Message ID.
 use Rattle.std.proofs.Common.{◌≡◌, ◌≢◌, ◌+◌, ◌-◌, ◌^◌, ◌<◌, ℕ, List, map, Bool, true, false, cond, Option, Some, None, arith, sym, ap, ◌∙◌, refl, inl, inr, Result, Ok, Err, OnErr, slice_index_or, length, ◌∷◌, [], subst}
 use Rattle.std.proofs.lemmas.Bool.Decides.{eqb_tells, leb_tells}
 use Rattle.std.specs.List.{filter}
@@ -13,7 +13,7 @@ use Rattle.moments.specs.declared.resent.Resent.{Resent}
 use Rattle.requests.proofs.EntryLemmas.{inserted_apart, inserted_here}
 use Rattle.requests.proofs.OrderLemmas.{above_later, above_told, above_true, not_above}
 
--- how many numbers of 32 bits lie above one, or above none
+-- how many Message IDs of 32 bits lie above one, or above none
 abbrev pub numbers_left : Option ℕ → ℕ
 numbers_left None = 2 ^ 32 + 1
 numbers_left (Some low) = 2 ^ 32 - low
@@ -25,7 +25,7 @@ fewer_left (Some m) n above fits = omega arith
 abbrev pub due_among : ℕ → Association → List (ℕ × Request) → List Resent
 due_among now a es = map (resent a) (filter (λ e. is_due now e.1) es)
 
--- what stands under a number when those up to another one were gone through
+-- what stands under a Message ID when those up to another one were gone through
 abbrev pub up_to : Option ℕ → ℕ → ℕ → Option Request → Option Request
 up_to low now n r = cond (is_above low n) r (option_map (after_sending now) r)
 
@@ -39,7 +39,7 @@ none_yet now a = record { each = λ n. refl; content = refl }
 abbrev told : ℕ → Option Request → Bool → Option Request
 told now r b = cond b r (option_map (after_sending now) r)
 
--- a number that is not the next one stays as it is, or as it is made already
+-- a Message ID that is not the next one stays as it is, or as it is made already
 same_apart : (low : Option ℕ) (now n q : ℕ) (r : Option Request) → IsAbove low n → q ≢ n → (IsAbove low q → q < n → r ≡ None) → up_to low now q r ≡ up_to (Some n) now q r
 same_apart low now n q r above apart none =
     elim (leb_tells (n + 1) q) [

@@ -1,4 +1,4 @@
--- What a moment leaves of what is held, and whose requests go out again.
+-- What a tick leaves of what is held, and whose requests go out again.
 use Rattle.std.proofs.Common.{◌≡◌, ◌+◌, ◌<◌, ◌++◌, ◌∷◌, ◌&&◌, [], ℕ, List, map, nat_le, Bool, true, false, cond, Option, Some, None, All, Contains, arith, sym, ap, ◌∙◌, refl, inl, inr, subst, ◌≤◌, length, length-append}
 use Rattle.std.proofs.lemmas.Bool.Decides.{nat_tests}
 use Rattle.std.proofs.lemmas.List.{length-map}
@@ -181,7 +181,7 @@ untouched now old new table new_table ticked nothing is =
     let none = all_untouched now old table ticked.requests ticked.closed new new_table (recursion_from_All (HasNothingDue now) old nothing) is in
     (λ i. record { requests = none.0 i; closed = none.1 i }, none.2, none.3)
 
--- of an association of which nothing is due nothing comes
+-- of an IKE SA of which nothing is due nothing comes
 sends_none : (now : ℕ) (a : Association) → HasNothingDue now a → sent_of now a ≡ []
 sends_none now a nothing = ap (λ (over : Bool). sent_by over (has_failed now a) now a) nothing.held ∙ ap (λ (failed : Bool). sent_by false failed now a) (has_not_failed now a nothing) ∙ sends_nothing now a nothing
 

@@ -1,4 +1,4 @@
--- What a moment leaves of the associations and of the table.
+-- What a tick leaves of the IKE SAs and of the table.
 use Rattle.std.proofs.Common.{◌≡◌, inl, inr, ℕ, suc, ◌+◌, ◌++◌, ◌∷◌, [], Bool, true, false, List, Option, Some, None, ap, refl, subst, sym, ◌∙◌}
 use Rattle.std.specs.FinMap as map
 use Rattle.std.specs.Option.{option_map}
@@ -13,7 +13,7 @@ use Rattle.moments.specs.Holding.{HoldSome, HoldsNone, HoldsOn, LeavesFewer, Was
 use Rattle.moments.specs.Ticking.{PassAll, PassesBy}
 use Rattle.moments.specs.declared.resent.Resent.{Resent}
 
--- ---- one association
+-- ---- one IKE SA
 
 same_octets : (now : ℕ) (due : Bool) (r : Request) → (if due then record r { timer = record { sent = now; repeats = r.timer.repeats + 1 } } else r).octets ≡ r.octets
 same_octets now true r = refl

@@ -1,4 +1,4 @@
--- The least moment at which something is due.
+-- The least time at which something is due.
 use Rattle.std.proofs.Common.{◌≡◌, ◌⊎◌, ◌+◌, ◌<◌, ◌≤◌, ◌^◌, ◌&&◌, ℕ, List, Bool, true, false, Option, Some, None, All, [], ◌∷◌, min, nat_le, nat_lt, arith, sym, ap, ◌∙◌, refl, inl, inr, subst, length, IfSome}
 use Rattle.std.proofs.lemmas.Bool.{true≢false}
 use Rattle.std.proofs.lemmas.Bool.Decides.{eqb_tells, leb_tells, nat_tests}
@@ -33,7 +33,7 @@ one_is P (Some m) (Some n) first second =
       | inr (_, more) ↦ (let same : n ≡ min m n = omega arith in subst P same second)
     ]
 
--- ---- from a moment on, where that is one of 64 bits
+-- ---- from a time on, where that is one of 64 bits
 
 pub early_by : (o : Option ℕ) (from now : ℕ) → SomeIff o (from < 2 ^ 64) from → now < 2 ^ 64 → IsBefore now o → now < from
 early_by None from now is fits before = elim (leb_tells from now) [ inl (_, less) ↦ absurd (is (omega arith)) | inr (_, more) ↦ more ]
@@ -55,7 +55,7 @@ not_over_by o from now is fits before = not_reached from now (early_by o from no
 pub over_by : (o : Option ℕ) (from : ℕ) → SomeIff o (from < 2 ^ 64) from → IfSome o (λ m. nat_le from m ≡ true)
 over_by o from is = IfSome_then o (due_by o from is) (λ m same. reached from m same)
 
--- ---- the requests up to a number
+-- ---- the requests up to a Message ID
 
 both_true : (a b c d : ℕ) → a ≤ b → c < d → (nat_le a b && nat_lt c d) ≡ true
 both_true a b c d less more = grind (arith, nat_tests, less, more)
@@ -70,7 +70,7 @@ request_due now r come =
       | inr (_, fewer) ↦ inl (both_true (due_from r.timer) now r.timer.repeats (length waits) come fewer)
     ]
 
--- none but those that are left is due before the first moment found, at which one is
+-- none but those that are left is due before the first time found, at which one is
 pub record WalkedTo (left : List (ℕ × Request)) (first : Option ℕ) (a : Association) : Type 0 where
   pub order : IsInOrder left
   pub there : (n : ℕ) (r : Request) → find n left ≡ Some r → numbers.get a.outgoing.outstanding n ≡ Some r
@@ -112,7 +112,7 @@ pub walked_all : (left : List (ℕ × Request)) (first : Option ℕ) (a : Associ
     → (now : ℕ) → now < 2 ^ 64 → IsBefore now first → (n : ℕ) (r : Request) → numbers.get a.outgoing.outstanding n ≡ Some r → now < due_from r.timer
 walked_all left first a none walked now fits before n r there = walked.early now fits before n r there (ap (find n) none)
 
--- ---- one association
+-- ---- one IKE SA
 
 pub quiet_before : (over next whole : Option ℕ) (a : Association) → whole ≡ earlier over next → ((now : ℕ) → now < 2 ^ 64 → IsBefore now over → is_over now a.phase ≡ false)
     → ((now : ℕ) → now < 2 ^ 64 → IsBefore now next → (n : ℕ) (r : Request) → numbers.get a.outgoing.outstanding n ≡ Some r → now < due_from r.timer)
@@ -128,7 +128,7 @@ something_at over next whole a is ends due =
 
 -- ---- several
 
--- nothing is due of those below a place before the first moment found, at which something is
+-- nothing is due of those below a place before the first time found, at which something is
 pub record LookedTo (place : ℕ) (first : Option ℕ) (associations : List Association) : Type 0 where
   pub early : (now : ℕ) → now < 2 ^ 64 → IsBefore now first → AllWithin (HasNothingDue now) associations 0 place
   pub due : IfSome first (λ m. SomethingIsDue m associations)

@@ -1,4 +1,4 @@
--- One association after the other, each in its place.
+-- One IKE SA after the other, each in its place.
 use Rattle.std.proofs.Common.{◌≡◌, ◌+◌, ◌<◌, ◌≤◌, ◌++◌, ◌∷◌, [], ℕ, suc, List, length, take, drop, get_or, Bool, true, false, not, cond, arith, sym, ap, ◌∙◌, refl, subst, add-one, drop-cons, nat_le, set}
 use Rattle.std.proofs.lemmas.List.{drop-set-lt, get_or-drop, take_all, take_more, take_more_set}
 use Rattle.std.specs.List.{flat_map}

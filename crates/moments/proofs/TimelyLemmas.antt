@@ -1,4 +1,4 @@
--- A moment does all that it has reached, and nothing of it is due afterwards.
+-- A tick does all that it has reached, and nothing of it is due afterwards.
 use Rattle.std.proofs.Common.{◌≡◌, ◌+◌, ◌<◌, ◌≤◌, ◌++◌, ◌∷◌, ◌&&◌, [], ℕ, zero, suc, List, nat_le, nat_lt, length, Bool, true, false, cond, Option, Some, None, All, Contains, inl, inr, arith, sym, ap, ◌∙◌, refl, subst, slice_index_or}
 use Rattle.std.proofs.lemmas.Bool.Decides.{nat_tests}
 use Rattle.std.proofs.lemmas.List.Elements.{All-from_recursion, recursion_from_All, Contains-append_cases, Contains-append_left, Contains-append_right}
@@ -51,7 +51,7 @@ some_wait (suc (suc (suc zero))) = omega arith
 some_wait (suc (suc (suc (suc zero)))) = omega arith
 some_wait (suc (suc (suc (suc (suc n))))) = omega arith
 
--- whoever has sent at a moment waits longer than that
+-- whoever has sent at a time waits longer than that
 pub waits_on : (now repeats : ℕ) → now < due_from (record { sent = now; repeats = repeats })
 waits_on now repeats = let longer = some_wait repeats in omega arith
 
@@ -62,7 +62,7 @@ one_left : (b : Bool) (count most : ℕ) → (b && nat_lt count most) ≡ true �
 one_left true count most is = grind (arith, nat_tests, is)
 one_left false count most is = absurd cc
 
--- a request waits, since this moment or an earlier one
+-- a request waits, since this time or an earlier one
 abbrev InTime : ℕ → Request → Type 0
 InTime now r = (now < due_from r.timer) × (r.timer.sent ≤ now) × (r.timer.repeats ≤ length waits)
 
@@ -127,7 +127,7 @@ pub nothing_left : (earlier now : ℕ) (old : List Association) (table : Databas
 nothing_left earlier now old table ticked new new_table less begun is =
     All-from_recursion (IsInTime now) new (all_timely earlier now old table ticked.requests ticked.closed new new_table less (recursion_from_All (HasBegun earlier) old begun) is)
 
--- ---- whose pairs go
+-- ---- whose SA pairs go
 
 spi_pairs : (Held : ℕ → Type 0) (old new : Database) → GivesUpSpis Held old new → new.pairs ≡ old.pairs
 spi_pairs Held old new is = ap (λ (d : Database). d.pairs) is.content

@@ -1,5 +1,5 @@
--- What a moment makes of each association where it stands, before those that are over are taken out.
--- Private contracts alone cite this.
+-- What a tick makes of each IKE SA where it stands, before those that are over are taken out. Private
+-- contracts alone cite this.
 use Rattle.std.specs.Prelude.{◌≡◌, ℕ, Bool, true, false, List, [], ◌∷◌, if◌then◌else◌}
 use Rattle.requests.specs.Outgoing.{OwnRequests, ReplacesRequest}
 use Rattle.sadb.specs.Database.{Database}
@@ -13,7 +13,7 @@ use Rattle.moments.specs.declared.resent.Resent.{Resent}
 abbrev pub one_due : ℕ → Association → ℕ → Request → List Resent
 one_due now a number r = if is_due now r then resent a (number, r) ∷ [] else []
 
--- an outstanding request stands as it is after the moment
+-- an outstanding request stands as it is after the tick
 pub record RestartsAt (now : ℕ) (old : OwnRequests Request) (number : ℕ) (new : OwnRequests Request) : Type 0 where
   pub request : Request
   pub replaced : ReplacesRequest old number request (after_sending now request) new

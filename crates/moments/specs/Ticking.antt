@@ -1,5 +1,5 @@
--- What comes with a moment, at all associations (RFC 7296 sections 2.1 and 2.4): requests go out again,
--- associations whose peer is gone are closed, and those that are over are held no longer.
+-- What comes with a tick, at all IKE SAs (RFC 7296 sections 2.1 and 2.4): requests are retransmitted, IKE SAs
+-- whose peer is gone are closed, and those that are over are held no longer.
 use Rattle.std.specs.Prelude.{◌≡◌, ◌++◌, ◌∷◌, ◌<◌, ℕ, Bool, true, false, Some, List, [], slice_get}
 use Rattle.sadb.specs.Database.{Database}
 use Rattle.association.specs.Closing.{Closes, HoldsReserved, HoldsSpi}
@@ -16,13 +16,12 @@ PassesBy false true now old table sent closed held new_table =
 PassesBy false false now old table sent closed held new_table =
     (new : Association) × (SendsAgain now old new) × (sent ≡ due_of now old) × (closed ≡ []) × (held ≡ new ∷ []) × (new_table ≡ table)
 
--- of one association: what is sent again, the serial that is closed, and the association as it is held
--- then, if it is
+-- of one IKE SA: what is sent again, the serial that is closed, and the IKE SA as it is held then, if it is
 pub record Passes (now : ℕ) (old : Association) (table : Database) (sent : List Resent) (closed : List ℕ) (held : List Association) (new_table : Database) : Type 0 where
   pub done : PassesBy (is_over now old.phase) (has_failed now old) now old table sent closed held new_table
 
--- what becomes of several associations: what is sent again, the serials that are closed, those that are
--- held then, and the table
+-- what becomes of several IKE SAs: what is sent again, the serials that are closed, those that are held then,
+-- and the table
 abbrev pub Passing : Type 1
 Passing = Database → List Resent → List ℕ → List Association → Database → Type 0
 
@@ -46,7 +45,7 @@ abbrev pub PassAll : ℕ → List Association → Database → List Resent → L
 PassAll now [] table sent closed held new_table = (sent ≡ []) × (closed ≡ []) × (held ≡ []) × (new_table ≡ table)
 PassAll now (a ∷ rest) table sent closed held new_table = PassesThen now a (λ before s c h after. PassAll now rest before s c h after) table sent closed held new_table
 
--- The SPIs that the associations hold are reserved in the table, each for one of them alone.
+-- The SPIs that the IKE SAs hold are reserved in the table, each for one of them alone.
 pub record HoldTheirSpis (associations : List Association) (table : Database) : Type 0 where
   pub reserved : (place : ℕ) (a : Association) → slice_get associations place ≡ Some a → HoldsReserved a table
   pub apart : (place later : ℕ) (a other : Association) (spi : ℕ) → place < later → slice_get associations place ≡ Some a → slice_get associations later ≡ Some other → HoldsSpi a spi → ¬ HoldsSpi other spi

@@ -1,4 +1,4 @@
-//! What is due of one association.
+//! What is due of one IKE SA.
 ghost use Rattle.std.specs.Prelude.{◌≡◌, ◌≢◌, ◌<◌, ◌≤◌, ◌^◌, ◌++◌, [], true, IfOk, OnOk, OnErr, length};
 ghost use Rattle.moments.specs.Due.{after_sending, due_of, has_failed, is_due, is_over, is_unanswered, outstanding_count, outstanding_of, resent, SendsAgain};
 ghost use Rattle.moments.specs.Passing.{one_due, RestartsAt};
@@ -11,7 +11,7 @@ use requests::{Due, Outgoing};
 use std::alloc::{AllocError, Global};
 use wire::numbers::IKE_SA_INIT;
 
-// How long an association is held that is half open, in milliseconds.
+// How long an IKE SA is held that is half-open, in milliseconds.
 pub(crate) const HALF_OPEN_TIME: u64 = 30_000;
 
 // How long one is held that is closed.
@@ -44,7 +44,7 @@ fn is_unanswered(request: &Request, now: u64) -> bool
     request.timer.due(now) == Due::Over
 }
 
-// Adds the requests that are due, by rising number.
+// Adds the requests that are due, by rising Message ID.
 pub(crate) fn append_due(
     alloc: Global,
     requests: &mut Items<Resent>,
@@ -96,7 +96,7 @@ fn resent(
     })
 }
 
-// Notes of the requests that are due that they were sent at this moment. Takes no memory.
+// Notes of the requests that are due that they were sent at this time. Takes no memory.
 pub(crate) fn send_again(association: &mut Association, now: u64)
     ensures { SendsAgain now association.old association.new }
 {
@@ -116,7 +116,7 @@ fn restart(outgoing: &mut Outgoing<Request>, number: u32, now: u64)
     outgoing.update(number, |request| sent_again(request, now));
 }
 
-// A request after a moment.
+// A request after a tick.
 fn sent_again(request: Request, now: u64) -> Request
     ensures { result ≡ after_sending now request }
 {
@@ -130,7 +130,7 @@ fn sent_again(request: Request, now: u64) -> Request
     }
 }
 
-/// How many requests wait for an answer, of all associations. No more go out again at a moment
+/// How many requests wait for an answer, of all IKE SAs. No more go out again at a tick
 /// ([`no_more_go_out_than_wait`](crate::laws::no_more_go_out_than_wait)). Takes no memory.
 pub fn outstanding_count(associations: &[Association]) -> usize
     ensures { result ≡ outstanding_count associations.now }
@@ -142,7 +142,7 @@ pub fn outstanding_count(associations: &[Association]) -> usize
     count
 }
 
-// How many of one association.
+// How many of one IKE SA.
 fn count_of(association: &Association) -> usize
     ensures count { result ≡ length (outstanding_of association.now) }
     ensures few { result ≤ 16 }

@@ -10,11 +10,10 @@ ghost use Rattle.moments.specs.Next.{earlier, HasSomethingDue, IsBefore, Nothing
 use crate::due::{CLOSED_TIME, HALF_OPEN_TIME};
 use association::{Association, Phase};
 
-/// The least moment at which something is due of these associations, in milliseconds: a request goes out
-/// again, one has failed, or an association is over. None where nothing is due at any moment of 64 bits.
-/// Takes no memory.
+/// The least time at which something is due of these IKE SAs, in milliseconds: a request goes out again, one
+/// has failed, or an IKE SA is over. None where nothing is due at any time of 64 bits. Takes no memory.
 ///
-/// Before that moment [`tick`](crate::tick) changes nothing and sends nothing
+/// Before that time [`tick`](crate::tick) changes nothing and sends nothing
 /// ([`nothing_comes_before_the_next_moment`](crate::laws::nothing_comes_before_the_next_moment)), and at it
 /// something comes ([`what_is_due_comes`](crate::laws::what_is_due_comes)).
 pub fn next_due(associations: &[Association]) -> Option<u64>
@@ -28,7 +27,7 @@ pub fn next_due(associations: &[Association]) -> Option<u64>
     next
 }
 
-// Of one association.
+// Of one IKE SA.
 fn next_of(association: &Association) -> Option<u64>
     ensures early { (now : ℕ) → now < 2 ^ 64 → IsBefore now result → HasNothingDue now association.now }
     ensures due { IfSome result (λ moment. HasSomethingDue moment association.now) }
@@ -36,7 +35,7 @@ fn next_of(association: &Association) -> Option<u64>
     earlier(end_of(association), next_request(association))
 }
 
-// The first moment at which it is over.
+// The first time at which it is over.
 fn end_of(association: &Association) -> Option<u64>
     ensures early { (now : ℕ) → now < 2 ^ 64 → IsBefore now result → is_over now association.now.phase ≡ false }
     ensures due { IfSome result (λ moment. is_over moment association.now.phase ≡ true) }
@@ -48,7 +47,7 @@ fn end_of(association: &Association) -> Option<u64>
     }
 }
 
-// The first moment at which one of its requests is due.
+// The first time at which one of its requests is due.
 fn next_request(association: &Association) -> Option<u64>
     ensures early { (now : ℕ) → now < 2 ^ 64 → IsBefore now result
         → (number : ℕ) (request : Request)
@@ -63,7 +62,7 @@ fn next_request(association: &Association) -> Option<u64>
     first
 }
 
-// The earlier one of two moments, where None never comes.
+// The earlier one of two times, where None never comes.
 fn earlier(one: Option<u64>, other: Option<u64>) -> Option<u64>
     ensures { result ≡ earlier one other }
 {

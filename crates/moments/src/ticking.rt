@@ -1,4 +1,4 @@
-//! What a moment brings, at all associations.
+//! What a tick brings, at all IKE SAs.
 ghost use Rattle.std.specs.Prelude.{◌≡◌, IfOk, IfErr, OnErr};
 ghost use Rattle.std.specs.List.{flat_map};
 ghost use Rattle.association.specs.Closing.{HoldsReserved};
@@ -13,22 +13,22 @@ use base::Items;
 use sadb::Table;
 use std::alloc::{AllocError, Global};
 
-/// What a moment brought.
+/// What a tick brought.
 #[derive(Debug, Drop, PartialEq, Eq)]
 pub struct Ticked {
-    /// The requests that go out again, in the order of their associations and by rising number.
+    /// The requests that go out again, in the order of their IKE SAs and by rising Message ID.
     pub requests: Items<Resent>,
-    /// The serials of the associations that were closed, in their order.
+    /// The serials of the IKE SAs that were closed, in their order.
     pub closed: Items<u32>,
 }
 
-/// Does what is due at a moment, in milliseconds. An association that is over is held no longer; one with a
-/// request that was sent for the last time and not answered in time is closed, and sends nothing; of each
-/// other one the requests that are due go out once more, however late it is.
+/// Does what is due at a time, in milliseconds. An IKE SA that is over is held no longer. One with a request
+/// that was sent for the last time and not answered in time is closed, and sends nothing. Of each other one
+/// the requests that are due go out once more, however late it is.
 ///
-/// The caller gives associations whose SPIs are reserved in the table, each for one of them alone. An error
-/// is for want of memory alone, and changes nothing. It comes only where a request is due to go out again
-/// or an association to be closed: to let go of what is over takes no memory.
+/// The caller gives IKE SAs whose SPIs are reserved in the table, each for one of them alone. The only error
+/// is an allocation failure, and it changes nothing. It comes only where a request is due to go out again or
+/// an IKE SA to be closed: to let go of what is over takes no memory.
 pub fn tick(
     alloc: Global,
     associations: &mut Vec<Association>,

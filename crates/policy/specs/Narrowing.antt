@@ -81,7 +81,7 @@ pub record IsAcceptableOffer (entries : List Entry) (initiator responder : List 
   pub entry : Entry
   pub chosen : IsChosenEntry entries initiator responder place entry
 
--- the refusals of an offer: Unacceptable where no entry is chosen, want of memory only where one is
+-- the refusals of an offer: Unacceptable where no entry is chosen, an allocation failure only where one is
 abbrev pub IsNarrowRefusal : List Entry → List Selector → List Selector → NarrowFault → Type 0
 IsNarrowRefusal entries initiator responder Unacceptable = ¬ IsAcceptableOffer entries initiator responder
 IsNarrowRefusal entries initiator responder Memory = IsAcceptableOffer entries initiator responder

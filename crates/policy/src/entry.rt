@@ -10,7 +10,7 @@ use base::{Range, Selector};
 /// What is done with a flow (RFC 4301 section 4.4.1).
 #[derive(Clone, Copy, Debug, PartialEq, Eq)]
 pub enum Action {
-    /// It goes through an association of ESP.
+    /// It goes through an ESP SA.
     Protect,
     /// It goes in the clear.
     Bypass,

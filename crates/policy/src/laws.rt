@@ -52,8 +52,8 @@ pub fn flows_are_determined()
         → IsFlowOf b f → ¬ IsInnerRefusal b fault }
 {}
 
-/// What [`narrow`](crate::narrow) answers is determined, and where it may answer it may not refuse but for
-/// want of memory.
+/// What [`narrow`](crate::narrow) answers is determined, and where it may answer it may not refuse but
+/// because of an allocation failure.
 pub fn narrowing_is_determined()
     ensures narrowed { (entries : List Entry) (i r answer_i answer_r other_i other_r : List Selector)
         → IsNarrowing entries i r answer_i answer_r → IsNarrowing entries i r other_i other_r

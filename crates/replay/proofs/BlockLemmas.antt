@@ -59,7 +59,7 @@ same_test true false there back = sym (there refl)
 same_test false true there back = back refl
 same_test false false there back = refl
 
--- numbers less than a round apart share a bit only if they are one number
+-- sequence numbers less than a round apart share a bit only if they are one number
 pub twin_is_same : (m n q : ℕ) → n / 64 < q / 64 + m → q / 64 < n / 64 + m → is_twin m n q ≡ nat_eq q n
 twin_is_same m n q below above =
     same_test (is_twin m n q) (nat_eq q n)
@@ -74,7 +74,7 @@ twin_is_same m n q below above =
     let same : q ≡ n = grind (arith, nat_tests, is) in
     both_true _ _ (eq-eqb _ _ (ap (λ x. x / 64 % m) same)) (eq-eqb _ _ (ap (λ x. x % 64) same)))
 
--- ---- the numbers that a ring shows
+-- ---- the sequence numbers that a ring shows
 abbrev is_last : ℕ → ℕ → ℕ → Bool
 is_last count top q = nat_le 1 q && (nat_le q top && nat_lt top (q + count))
 
@@ -93,7 +93,7 @@ any_last zero top q = none_last top q
 any_last (suc count) zero q = none_below count q
 any_last (suc count) (suc below) q = ap (λ b. nat_eq (suc below) q || b) (any_last count below q) ∙ last_step count below q
 
--- a number is shown exactly if its bit is set and it lies in the span
+-- a sequence number is shown exactly if its bit is set and it lies in the span
 pub shown_is : (top : ℕ) (blocks : List ℕ) (q : ℕ) → set.contains (shown top blocks).taken q ≡ (is_marked blocks q && is_last (span_of blocks) top q)
 shown_is top blocks q =
     set.contains-from_list_nat _ q
@@ -101,7 +101,7 @@ shown_is top blocks q =
     (λ y is. let e : y ≡ q = grind (arith, nat_tests, is) in ap (is_marked blocks) e) (last_numbers (span_of blocks) top)
     ∙ ap (λ b. is_marked blocks q && b) (any_last (span_of blocks) top q)
 
--- what it means that a ring shows a number
+-- what it means that a ring shows a sequence number
 record IsShown (top : ℕ) (blocks : List ℕ) (q : ℕ) : Type 0 where
   marked : is_marked blocks q ≡ true
   not_zero : 1 ≤ q
@@ -147,7 +147,7 @@ unfolding last_numbers
 last_of_none zero = refl
 last_of_none (suc count) = refl
 
--- a ring of cleared blocks shows the window without numbers
+-- a ring of cleared blocks shows the window without sequence numbers
 pub shown_start : (m : ℕ) → shown 0 (replicate m 0) ≡ unused_window m
 shown_start m =
     let size : span_of (replicate m 0) ≡ 64 * (m - 1) = ap (λ k. 64 * (k - 1)) (length-replicate m 0) in
@@ -206,7 +206,7 @@ bit_after block n q =
       | inr (e, other) ↦ ap (λ b. nat_eq b 1) (bit_at_set_other w64 block (n % 64) (omega arith) (q % 64) other) ∙ ap (λ b. b || nat_eq (bit_at block (q % 64)) 1) (sym e)
     ]
 
--- setting a number's bit marks it and its twins
+-- setting a sequence number's bit marks it and its twins
 pub set_marks : (blocks : List ℕ) (n q place : ℕ) → place ≡ place_of blocks n → place < length blocks → is_marked (slice_set blocks place (bit_or (get_or blocks place 0) (1 * 2 ^ (n % 64) % 18446744073709551616))) q ≡ (is_twin (length blocks) n q || is_marked blocks q)
 unfolding is_marked
 set_marks blocks n q place is inside =
@@ -222,7 +222,7 @@ set_marks blocks n q place is inside =
           ∙ ap (λ t. (t && nat_eq (q % 64) (n % 64)) || is_marked blocks q) (sym e)
     ]
 
--- ---- taking a number
+-- ---- taking a sequence number
 test_parts : (twin marked last : Bool) → ((twin || marked) && last) ≡ true → ((twin ≡ true) ⊎ (marked ≡ true)) × (last ≡ true)
 test_parts true marked true is = (inl refl, refl)
 test_parts true marked false is = cc
@@ -241,7 +241,7 @@ either_parts true b is = inl refl
 either_parts false true is = inr refl
 either_parts false false is = cc
 
--- what a ring is after a number's bit was set
+-- what a ring is after a sequence number's bit was set
 pub record IsSet (old : List ℕ) (n : ℕ) (new : List ℕ) : Type 0 where
   pub count : length new ≡ length old
   pub marked : (q : ℕ) → is_marked new q ≡ (is_twin (length old) n q || is_marked old q)
@@ -321,7 +321,7 @@ pub record IsCleared (old : List ℕ) (from to : ℕ) (new : List ℕ) : Type 0 
 unmarked_block : (old new : List ℕ) (q : ℕ) → length new ≡ length old → get_or new (q / 64 % length old) 0 ≡ 0 → is_marked new q ≡ false
 unmarked_block old new q count empty = not_marked new q (ap (λ m. get_or new (q / 64 % m) 0) count ∙ empty)
 
--- the bits of the new block above the greatest number, before its bit is set
+-- the bits of the new block above the greatest sequence number, before its bit is set
 pub none_above_after : (top n q : ℕ) (old cleared : List ℕ) → IsRing top old → IsCleared old (top / 64) (n / 64) cleared → top < n → n < q → q / 64 ≡ n / 64 → is_marked cleared q ≡ false
 none_above_after top n q old cleared ring is above beyond same =
     let least = ring.least in
@@ -332,7 +332,8 @@ none_above_after top n q old cleared ring is above beyond same =
       | inr (_, passed) ↦ unmarked_block old cleared q is.count (is.cleared (q / 64) passed (omega arith))
     ]
 
--- the bits of the new span, before the new number's bit is set, are those of the numbers that were shown
+-- the bits of the new span, before the new sequence number's bit is set, are those of the numbers that were
+-- shown
 pub shown_after : (top n q : ℕ) (old cleared : List ℕ) → IsRing top old → IsCleared old (top / 64) (n / 64) cleared → top < n → n < q + span_of old → 1 ≤ q → q ≤ n → is_marked cleared q ≡ set.contains (shown top old).taken q
 shown_after top n q old cleared ring is above in_span not_zero up_to =
     let least = ring.least in
@@ -425,7 +426,7 @@ kept_more now m place block last was is so_far before after =
     ∙ so_far
 
 -- ---- asking
--- a number in the span is judged by its bit
+-- a sequence number in the span is judged by its bit
 pub judged_by_bit : (top : ℕ) (blocks : List ℕ) (n : ℕ) (found : Bool) → 1 ≤ n → n ≤ top → top < n + span_of blocks → found ≡ is_marked blocks n → judgement (shown top blocks) n ≡ (if found then Taken else Fresh)
 judged_by_bit top blocks n found not_zero up_to_top in_span is =
     judged_in_span (shown top blocks) n found not_zero in_span

@@ -1,4 +1,4 @@
--- How a window judges a number in its span or above it.
+-- How a window judges a sequence number in its span or above it.
 use Rattle.std.specs.Prelude.{◌≡◌, ℕ, ◌+◌, ◌<◌, ◌≤◌, Bool, false, if◌then◌else◌}
 use Rattle.std.specs.FinSet as set
 use Rattle.std.proofs.Common.{arith, sym, ◌∙◌, ap}

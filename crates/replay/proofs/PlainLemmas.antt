@@ -1,4 +1,4 @@
--- A window that keeps its numbers in a list.
+-- A window that keeps its sequence numbers in a list.
 use Rattle.std.specs.Prelude.{◌≡◌, ℕ, ◌+◌, ◌-◌, ◌<◌, ◌≤◌, Bool, true, false, List, [], ◌∷◌, ◌++◌, ◌&&◌, ◌||◌, cond, if◌then◌else◌, nat_eq, nat_lt, refl}
 use Rattle.std.specs.List.{list_any, filter, AllByRecursion, IsDistinct}
 use Rattle.std.specs.FinSet as set
@@ -28,7 +28,7 @@ sound_start size spans =
       fits = omega arith;
     }
 
--- a number in the span or above it is judged by looking for it in the list
+-- a sequence number in the span or above it is judged by looking for it in the list
 pub judged_by_list : (top size n : ℕ) (numbers : List ℕ) (found : Bool) → 1 ≤ n → top < n + size → found ≡ list_any (λ y. nat_eq y n) numbers → judgement (listed top size numbers) n ≡ (if found then Taken else Fresh)
 judged_by_list top size n numbers found not_zero not_old is = judged_in_span (listed top size numbers) n found not_zero not_old (is ∙ sym (set.contains-from_list_nat numbers n))
 
@@ -38,7 +38,7 @@ swapped true false there same = cc
 swapped false true there same = cc
 swapped false false there same = cc
 
--- what a list finds after one more number was put at its end
+-- what a list finds after one more sequence number was put at its end
 any_push : (numbers : List ℕ) (n q : ℕ) → list_any (λ y. nat_eq y q) (numbers ++ n ∷ []) ≡ (nat_eq q n || set.contains (set.from_list {R = nat_cmp} numbers) q)
 any_push numbers n q =
     list_any-append (λ y. nat_eq y q) numbers (n ∷ [])

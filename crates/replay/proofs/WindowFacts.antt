@@ -7,7 +7,7 @@ use Rattle.std.proofs.lemmas.Bool.Decides.{nat_tests, leb_tells}
 use Rattle.replay.specs.declared.window.Judgement.TheVariants.{Zero, Old, Taken, Fresh}
 use Rattle.replay.specs.Window.{Seen, IsSoundWindow, judgement, Takes}
 
--- what it means that a number is fresh
+-- what it means that a sequence number is fresh
 pub record IsFresh (w : Seen) (n : ℕ) : Type 0 where
   pub not_zero : 1 ≤ n
   pub not_old : w.top < n + w.size
@@ -26,7 +26,7 @@ fresh w n is =
     let old : nat_le (n + w.size) w.top ≡ false = parts.1 in
     record { not_zero = grind (arith, nat_tests, zero); not_old = grind (arith, nat_tests, old); not_taken = parts.2 }
 
--- a number of the new window was in the old one or is the new one, and lies in the new span
+-- a sequence number of the new window was in the old one or is the new one, and lies in the new span
 record IsKept (old new : Seen) (n q : ℕ) : Type 0 where
   from : (q ≡ n) ⊎ (set.contains old.taken q ≡ true)
   in_span : new.top < q + new.size
@@ -67,7 +67,7 @@ top_taken old new n sound is_fresh takes =
     ]
     in takes.taken new.top ∙ is_kept (nat_eq new.top n) (set.contains old.taken new.top) _ one span
 
--- taking a fresh number leaves a sound window sound
+-- taking a fresh sequence number leaves a sound window sound
 pub takes_sound : (old new : Seen) (n : ℕ) → IsSoundWindow old → IsFresh old n → n < 2 ^ 64 → Takes old n new → IsSoundWindow new
 takes_sound old new n sound is_fresh fits takes =
     record {

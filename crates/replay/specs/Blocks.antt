@@ -1,22 +1,23 @@
--- The numbers taken, kept as a ring of blocks of 64 bits (RFC 6479 section 2): number n stands in block n /
--- 64, counted round the ring.
+-- The sequence numbers taken, kept as a ring of blocks of 64 bits (RFC 6479 section 2): number n stands in
+-- block n / 64, counted round the ring.
 use Rattle.std.specs.Prelude.{◌≡◌, ℕ, ◌*◌, ◌-◌, ◌/◌, ◌%◌, ◌^◌, ◌<◌, ◌≤◌, Bool, true, false, List, [], ◌∷◌, length, get_or, filter, ◌&&◌, nat_eq, zero, suc}
 use Rattle.std.specs.Int.{bit_at}
 use Rattle.replay.specs.Window.{Seen, listed}
 
--- which place of the ring a number's block has
+-- which place of the ring a sequence number's block has
 abbrev pub place_of : List ℕ → ℕ → ℕ
 place_of blocks n = n / 64 % length blocks
 
--- whether the bit of a number is set, which other numbers share that lie whole rounds of the ring away
+-- whether the bit of a sequence number is set, which other numbers share that lie whole rounds of the ring
+-- away
 unfoldable pub is_marked : List ℕ → ℕ → Bool
 is_marked blocks n = nat_eq (bit_at (get_or blocks (place_of blocks n) 0) (n % 64)) 1
 
--- whether two numbers share a bit in a ring of so many blocks
+-- whether two sequence numbers share a bit in a ring of so many blocks
 abbrev pub is_twin : ℕ → ℕ → ℕ → Bool
 is_twin count n q = nat_eq (q / 64 % count) (n / 64 % count) && nat_eq (q % 64) (n % 64)
 
--- the numbers up to top, but for 0, from the greatest one down: so many of them, or all
+-- the sequence numbers up to top, but for 0, from the greatest one down: so many of them, or all
 unfoldable pub last_numbers : ℕ → ℕ → List ℕ
 last_numbers zero top = []
 last_numbers (suc count) zero = []
@@ -26,7 +27,7 @@ last_numbers (suc count) (suc below) = suc below ∷ last_numbers count below
 abbrev pub span_of : List ℕ → ℕ
 span_of blocks = 64 * (length blocks - 1)
 
--- the window that a ring shows: of the numbers in its span those whose bits are set
+-- the window that a ring shows: of the sequence numbers in its span those whose bits are set
 abbrev pub shown : ℕ → List ℕ → Seen
 shown top blocks = listed top (span_of blocks) (filter (is_marked blocks) (last_numbers (span_of blocks) top))
 
@@ -36,5 +37,5 @@ pub record IsRing (top : ℕ) (blocks : List ℕ) : Type 0 where
   pub most : length blocks ≤ 128
   pub fits : top < 2 ^ 64
   pub top_marked : 1 ≤ top → is_marked blocks top ≡ true
-  -- the greatest number's block has no bit above it
+  -- the greatest sequence number's block has no bit above it
   pub none_above : (n : ℕ) → top < n → n / 64 ≡ top / 64 → is_marked blocks n ≡ false

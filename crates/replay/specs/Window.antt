@@ -5,30 +5,30 @@ use Rattle.std.specs.FinSet as set
 use Rattle.replay.specs.declared.window.Judgement.{Judgement}
 use Rattle.replay.specs.declared.window.Judgement.TheVariants.{Zero, Old, Taken, Fresh}
 
--- a window, seen as the greatest number taken (0 where none was), how many numbers it spans, and those of
--- them that were taken
+-- a window, seen as the greatest sequence number taken (0 where none was), how many numbers it spans, and
+-- those of them that were taken
 pub record Seen : Type 0 where
   pub top : ℕ
   pub size : ℕ
   pub taken : set.FinSet nat_cmp
 
--- the window whose taken numbers are those of a list
+-- the window whose taken sequence numbers are those of a list
 abbrev pub listed : ℕ → ℕ → List ℕ → Seen
 listed top size numbers = record { top = top; size = size; taken = set.from_list numbers }
 
 -- what holds of every window
 pub record IsSoundWindow (w : Seen) : Type 0 where
-  -- it spans some numbers
+  -- it spans some sequence numbers
   pub spans : 1 ≤ w.size
-  -- each taken number lies in the span that ends at the greatest one, and is not 0
+  -- each taken sequence number lies in the span that ends at the greatest one, and is not 0
   pub not_zero : (n : ℕ) → set.contains w.taken n ≡ true → 1 ≤ n
   pub up_to_top : (n : ℕ) → set.contains w.taken n ≡ true → n ≤ w.top
   pub in_span : (n : ℕ) → set.contains w.taken n ≡ true → w.top < n + w.size
-  -- the greatest number is 0 or was taken
+  -- the greatest sequence number is 0 or was taken
   pub top_taken : 1 ≤ w.top → set.contains w.taken w.top ≡ true
   pub fits : w.top < 2 ^ 64
 
--- what a window says of a number: below the span it can't know, so the number counts as old
+-- what a window says of a sequence number: below the span it can't know, so the number counts as old
 abbrev pub judgement : Seen → ℕ → Judgement
 judgement w n =
     if nat_eq n 0 then Zero
@@ -43,7 +43,8 @@ pub record Takes (old : Seen) (n : ℕ) (new : Seen) : Type 0 where
   pub size : new.size ≡ old.size
   pub taken : (q : ℕ) → set.contains new.taken q ≡ ((nat_eq q n || set.contains old.taken q) && nat_lt new.top (q + new.size))
 
--- a window of m blocks of 64 numbers, of which one is always being filled, before any number was taken
+-- a window of m blocks of 64 sequence numbers, of which one is always being filled, before any number was
+-- taken
 abbrev pub unused_window : ℕ → Seen
 unused_window m = record { top = 0; size = 64 * (m - 1); taken = set.empty }
 

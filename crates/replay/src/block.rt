@@ -6,11 +6,11 @@ ghost use Rattle.replay.specs.Blocks.{IsRing, is_marked, is_twin, shown};
 use crate::{Judgement, ReplayFault, Window};
 use std::alloc::Global;
 
-// The numbers of one block.
+// The sequence numbers of one block.
 const BLOCK: u64 = 64;
 
-/// A window that keeps a bit for each number, in a ring of blocks of 64 bits (RFC 6479). Moving up clears
-/// the blocks that are passed over and shifts nothing, so asking and taking cost the same whatever the
+/// A window that keeps a bit for each sequence number, in a ring of blocks of 64 bits (RFC 6479). Moving up
+/// clears the blocks that are passed over and shifts nothing, so asking and taking cost the same whatever the
 /// window holds, and a jump costs at most as many writes as there are blocks. Memory is taken when it is
 /// made, and never again.
 #[derive(Drop)]
@@ -22,9 +22,9 @@ pub struct BlockWindow {
 }
 
 impl BlockWindow {
-    /// A window of `blocks` blocks of 64 numbers, a count that [`is_block_count`](crate::is_block_count)
-    /// allows. It spans 64 (blocks - 1) numbers. [`ReplayFault::Memory`] where there is no memory for the
-    /// blocks, 8 octets each.
+    /// A window of `blocks` blocks of 64 sequence numbers, a count that
+    /// [`is_block_count`](crate::is_block_count) allows. It spans 64 (blocks - 1) numbers.
+    /// [`ReplayFault::Memory`] where there is no memory for the blocks, 8 octets each.
     pub fn new(alloc: Global, blocks: u32) -> Result<BlockWindow, ReplayFault>
         requires { IsBlockCount blocks }
         ensures { IfOk result (λ window. ⟦<BlockWindow as Window>⟧.seen window ≡ unused_window blocks) }
@@ -78,7 +78,7 @@ fn place(blocks: &[u64], block: u64) -> usize
     (block % blocks.len() as u64) as usize
 }
 
-// Whether the bit of a number is set.
+// Whether the bit of a sequence number is set.
 fn is_set(blocks: &[u64], n: u64) -> bool
     requires { 1 ≤ length blocks.now }
     ensures { result ≡ is_marked blocks.now n }
@@ -86,7 +86,7 @@ fn is_set(blocks: &[u64], n: u64) -> bool
     (blocks[place(blocks, n / BLOCK)] >> (n % BLOCK)) & 1 == 1
 }
 
-// Marks a fresh number, in the ring whose greatest number is `top`; a greater one moves the span up.
+// Marks a fresh sequence number, in the ring whose greatest number is `top`; a greater one moves the span up.
 fn mark(blocks: &mut [u64], top: u64, n: u64)
     requires ring { IsRing top blocks.old }
     requires is_fresh { judgement (shown top blocks.old) n ≡ Judgement.Fresh }
@@ -100,7 +100,7 @@ fn mark(blocks: &mut [u64], top: u64, n: u64)
     set_bit(blocks, n);
 }
 
-// Sets the bit of a number.
+// Sets the bit of a sequence number.
 fn set_bit(blocks: &mut [u64], n: u64)
     requires { 1 ≤ length blocks.old }
     ensures length { length blocks.new ≡ length blocks.old }

@@ -7,7 +7,7 @@ use thiserror::Error;
 /// Why a window refused.
 #[derive(Clone, Copy, Debug, PartialEq, Eq, Error)]
 pub enum ReplayFault {
-    /// There was no memory for one more number. The window is as it was.
+    /// There was no memory for one more sequence number. The window is as it was.
     #[error("E20: no memory for the replay window")]
     Memory,
 }

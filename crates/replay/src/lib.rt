@@ -1,10 +1,9 @@
 //! Sequence numbers of ESP: what number a packet has, and whether it came before (RFC 4303 sections 2.2 and
 //! 3.4.3).
 //!
-//! A packet carries the low 32 bits of its number. [`recover`] finds the number that they stand for, which
-//! an association with extended numbers needs. A [`Window`] remembers the numbers that were taken: asking
-//! ([`Window::judge`]) is apart from taking ([`Window::take`]), so that a packet's number is taken only
-//! after its check value was found right.
+//! A packet carries the low 32 bits of its number. [`recover`] finds the number that they stand for, which an
+//! SA with ESN needs. A [`Window`] remembers the numbers that were taken: asking ([`Window::judge`]) is apart
+//! from taking ([`Window::take`]), so that a packet's number is taken only after its ICV was found right.
 //!
 //! ```rust
 //! use replay::{BlockWindow, Judgement, Window};

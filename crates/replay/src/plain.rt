@@ -1,4 +1,4 @@
-//! A window that keeps a list of the numbers taken.
+//! A window that keeps a list of the sequence numbers taken.
 ghost use Rattle.std.specs.Prelude.{◌≡◌, ◌-◌, nat_eq, nat_lt, filter};
 ghost use Rattle.std.specs.List.{IsDistinct, IsDistinct-prop};
 ghost use Rattle.replay.specs.Window.{IsBlockCount, IsSoundWindow, listed, unused_window};
@@ -6,8 +6,9 @@ ghost use Rattle.replay.specs.Window.{IsBlockCount, IsSoundWindow, listed, unuse
 use crate::{Judgement, ReplayFault, Window};
 use std::alloc::Global;
 
-/// A window that keeps a list of the numbers taken in its span, each of them once: simple, with memory for
-/// as many numbers as it holds, of which there are no more than it spans. Asking looks through all of them.
+/// A window that keeps a list of the sequence numbers taken in its span, each of them once: simple, with
+/// memory for as many numbers as it holds, of which there are no more than it spans. Asking looks through all
+/// of them.
 #[derive(Drop)]
 pub struct PlainWindow {
     top: u64,
@@ -18,8 +19,9 @@ pub struct PlainWindow {
 }
 
 impl PlainWindow {
-    /// A window of `blocks` blocks of 64 numbers, a count that [`is_block_count`](crate::is_block_count)
-    /// allows. It spans 64 (blocks - 1) numbers, and takes no memory until a number is taken.
+    /// A window of `blocks` blocks of 64 sequence numbers, a count that
+    /// [`is_block_count`](crate::is_block_count) allows. It spans 64 (blocks - 1) numbers, and takes no
+    /// memory until a number is taken.
     pub fn new(alloc: Global, blocks: u32) -> PlainWindow
         requires { IsBlockCount blocks }
         ensures { ⟦<PlainWindow as Window>⟧.seen result ≡ unused_window blocks }
@@ -69,7 +71,7 @@ impl Window for PlainWindow {
     ghost sound = { λ w. w.sound };
 }
 
-// Forgets the numbers below the span of `size` numbers that ends at `top`.
+// Forgets the sequence numbers below the span of `size` numbers that ends at `top`.
 fn forget_below(taken: &mut Vec<u64>, top: u64, size: u64)
     ensures { taken.new.items ≡ filter (λ n. nat_lt (top - n) size) taken.old.items }
 {

@@ -1,12 +1,12 @@
-//! The number that a low half stands for.
+//! The sequence number that a low half stands for.
 ghost use Rattle.std.specs.Prelude.{◌≡◌, ℕ, MatchOption};
 ghost use Rattle.replay.specs.Recovery.{IsRecovered};
 
 const LOW_HALF: u64 = 0xffff_ffff;
 
 /// The one number with this low half among the 2^32 that begin at the lower edge of a window of `window`
-/// numbers which ends at `top`, the greatest number taken so far; `None` where that number would be 0,
-/// negative or 2^64 or more (RFC 4303 section 2.2.1 and appendix A2).
+/// sequence numbers which ends at `top`, the greatest number taken so far; `None` where that number would be
+/// 0, negative or 2^64 or more (RFC 4303 section 2.2.1 and appendix A2).
 pub fn recover(top: u64, window: u64, low: u32) -> Option<u64>
     ensures { MatchOption result ((n : ℕ) → ¬ IsRecovered top window low n)
         (λ n. IsRecovered top window low n) }

@@ -1,4 +1,4 @@
--- What each call makes of the numbers, and what follows over many calls.
+-- What each call makes of the Message IDs, and what follows over many calls.
 use Rattle.std.proofs.Common.{◌≡◌, ◌≢◌, ◌+◌, ◌≤◌, ℕ, Option, Some, None, is_some, arith, sym, ap, ◌∙◌, refl, inl, inr}
 use Rattle.std.proofs.lemmas.Bool.{true≢false}
 use Rattle.std.proofs.lemmas.Bool.Decides.{eqb_tells}
@@ -45,7 +45,7 @@ follows_again a b c one two = record {
       (λ passed. near (record { later = passed.later; in_effect = passed.in_effect; far = omega (arith, passed.far, one.size) }));
 }
 
--- where neither numbers nor replies changed
+-- where neither Message IDs nor responses changed
 follows_unchanged : (old new : PeerRequests) → old.size ≤ new.size → new.in_effect ≡ old.in_effect → new.kept ≡ old.kept → FollowsIncoming old new
 follows_unchanged old new size numbers replies = record {
   size = size;

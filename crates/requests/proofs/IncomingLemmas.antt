@@ -1,4 +1,4 @@
--- The peer's requests: as they begin, after one took effect, and what holds of them always.
+-- The peer's requests: as they begin, after one was processed, and what holds of them always.
 use Rattle.std.proofs.Common.{◌≡◌, ◌+◌, ◌-◌, ◌<◌, ◌≤◌, ◌^◌, ◌⊎◌, ℕ, Bool, true, false, cond, Option, Some, None, IsSome, is_some, nat_le, nat_lt, arith, sym, ap, ◌∙◌, refl, inl, inr}
 use Rattle.std.proofs.lemmas.Bool.{true≢false}
 use Rattle.std.proofs.lemmas.Bool.Decides.{eqb_tells, leb_tells, nat_tests}
@@ -51,7 +51,7 @@ chosen : (b : Bool) (o : Option Octets) (octets : Octets) → cond b o None ≡ 
 chosen true o octets is = (refl, is)
 chosen false o octets is = absurd (none-some octets is)
 
--- ---- after a request took effect
+-- ---- after a request was processed
 module _ (s : NumberSet) (size room number first : ℕ) (kept : Replies) (reply : Octets) (are : AreIncoming s size kept)
     (fresh : IsFreshRequest (record { in_effect = s; size = size; kept = kept; room = room }) number) (first_is : first ≡ number + 1 - size) where
   abbrev after_kept : Replies
@@ -60,7 +60,7 @@ module _ (s : NumberSet) (size room number first : ℕ) (kept : Replies) (reply 
   kept_after : (n : ℕ) → map.get after_kept n ≡ cond (nat_le first n) (map.get (map.insert kept number reply) n) None
   kept_after n = retained (map.insert kept number reply) (nat_le first) n
 
-  -- nothing in effect lies a window above the new number
+  -- nothing in effect lies a window above the new Message ID
   near_new : (q : ℕ) → HasNumber (set.insert s number) q → q < number + size
   near_new q has =
       let some = are.some in

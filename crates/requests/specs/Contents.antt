@@ -1,4 +1,4 @@
--- What the numbers of an association say. For how many more replies or requests there is room is no part of
+-- What the Message IDs of an IKE SA say. For how many more responses or requests there is room is no part of
 -- it.
 use Rattle.requests.specs.Incoming.{PeerRequests}
 use Rattle.requests.specs.Outgoing.{OwnRequests}

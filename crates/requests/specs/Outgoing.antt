@@ -1,4 +1,4 @@
--- This end's requests of one association, as the set of the numbers answered and a finite map of the
+-- This end's requests of one IKE SA, as the set of the Message IDs answered and a finite map of the
 -- outstanding requests (RFC 7296 sections 2.1 to 2.3).
 use Rattle.std.specs.Prelude.{◌≡◌, ◌+◌, ◌^◌, ◌<◌, ◌≤◌, ℕ, Bool, true, false, Option, Some, None, IsSome, nat_lt, refl}
 use Rattle.std.specs.Ordering.{nat_cmp}
@@ -10,13 +10,13 @@ use Rattle.requests.specs.declared.fault.RequestFault.TheVariants.{Memory, Busy,
 use Rattle.requests.specs.Numbers.{NumberSet, HasNumber, LacksNumber, IsGap}
 
 pub record OwnRequests (T : Type 0) : Type 0 where
-  -- the least number never issued
+  -- the least Message ID never issued
   pub next : ℕ
-  -- the numbers whose answers were counted
+  -- the Message IDs whose responses were matched
   pub answered : NumberSet
   -- how many requests the peer allows to be under way (RFC 7296 section 2.3)
   pub window : ℕ
-  -- the requests that wait for an answer, by number
+  -- the requests that wait for an answer, by Message ID
   pub outstanding : map.FinMap nat_cmp T
   -- for how many more requests there is room, so that issuing them takes no memory; no part of the content
   pub room : ℕ
@@ -34,22 +34,22 @@ own_requests_code {T} code =
 abbrev pub none_issued : {T : Type 0} → OwnRequests T
 none_issued = record { next = 0; answered = set.empty; window = 1; outstanding = map.empty; room = 0 }
 
--- number 0 was issued and answered elsewhere
+-- Message ID 0 was issued and answered elsewhere
 abbrev pub number_0_answered : {T : Type 0} → OwnRequests T
 number_0_answered = record { next = 1; answered = set.insert set.empty 0; window = 1; outstanding = map.empty; room = 0 }
 
--- the request of this number waits for an answer
+-- the request of this Message ID waits for an answer
 abbrev pub IsOutstanding : {T : Type 0} → OwnRequests T → ℕ → Type 0
 IsOutstanding r number = IsSome (map.get r.outstanding number)
 
--- the next number lies at the end of the peer's window, which begins at the least unanswered number, or
--- above it
+-- the next Message ID lies at the end of the peer's window, which begins at the least unanswered Message ID,
+-- or above it
 pub record IsBusy {T : Type 0} (r : OwnRequests T) : Type 0 where
   pub gap : ℕ
   pub is_gap : IsGap r.answered gap
   pub full : gap + r.window ≤ r.next
 
--- no number of 32 bits is left (RFC 7296 section 2.2)
+-- no Message ID of 32 bits is left (RFC 7296 section 2.2)
 abbrev pub AreNumbersSpent : {T : Type 0} → OwnRequests T → Type 0
 AreNumbersSpent r = 2 ^ 32 ≤ r.next
 
@@ -59,7 +59,7 @@ IsRequestRefusal r Busy = IsBusy r
 IsRequestRefusal r NumbersSpent = (¬ IsBusy r) × AreNumbersSpent r
 IsRequestRefusal r Memory = (¬ IsBusy r) × (¬ AreNumbersSpent r) × (r.room ≡ 0)
 
--- a request may be issued: its number lies in the peer's window and has 32 bits
+-- a request may be issued: its Message ID lies in the peer's window and has 32 bits
 pub record MayIssue {T : Type 0} (r : OwnRequests T) : Type 0 where
   pub not_busy : ¬ IsBusy r
   pub not_spent : ¬ AreNumbersSpent r
@@ -69,7 +69,7 @@ pub record HasSameOwnRequests {T : Type 0} (old new : OwnRequests T) : Type 0 wh
   pub content : new ≡ record old { room = new.room }
   pub room : old.room ≤ new.room
 
--- the request has the least number never issued, and waits for its answer; room falls by one
+-- the request has the least Message ID never issued, and waits for its answer; room falls by one
 pub record IssuesRequest {T : Type 0} (old : OwnRequests T) (request : T) (number : ℕ) (new : OwnRequests T) : Type 0 where
   pub allowed : MayIssue old
   pub least : number ≡ old.next
@@ -103,16 +103,18 @@ pub record ChangesRequest {T : Type 0} (Makes : T → T → Type 0) (old : OwnRe
   pub made : Makes was is
   pub replaced : ReplacesRequest old number was is new
 
--- an outstanding request is given back unanswered, so its number is never answered; its room is free again
+-- an outstanding request is given back unanswered, so its Message ID is never answered; its room is free
+-- again
 pub record WithdrawsRequest {T : Type 0} (old : OwnRequests T) (number : ℕ) (request : T) (new : OwnRequests T) : Type 0 where
   pub there : map.get old.outstanding number ≡ Some request
   pub content : new ≡ record old { outstanding = map.remove old.outstanding number; room = old.room + 1 }
 
--- nothing is outstanding any more, no number more is answered, and the room of what was outstanding is free
+-- nothing is outstanding any more, no Message ID more is answered, and the room of what was outstanding is
+-- free
 pub record GivesUpRequests {T : Type 0} (old new : OwnRequests T) : Type 0 where
   pub content : new ≡ record old { outstanding = map.empty; room = old.room + map.len old.outstanding }
 
--- a number lies above another one, or above none
+-- a Message ID lies above another one, or above none
 abbrev pub IsAbove : Option ℕ → ℕ → Type 0
 IsAbove None number = Unit {0}
 IsAbove (Some low) number = low < number
@@ -122,7 +124,7 @@ abbrev pub is_above : Option ℕ → ℕ → Bool
 is_above None number = true
 is_above (Some low) number = nat_lt low number
 
--- the next outstanding request by number
+-- the next outstanding request by Message ID
 pub record IsNextOutstanding {T : Type 0} (r : OwnRequests T) (low : Option ℕ) (number : ℕ) (request : T) : Type 0 where
   pub there : map.get r.outstanding number ≡ Some request
   pub above : IsAbove low number
@@ -139,7 +141,7 @@ pub record SomeOutstanding {T : Type 0} (outstanding : map.FinMap nat_cmp T) (An
 abbrev pub NoneOutstanding : {T : Type 0} → map.FinMap nat_cmp T → (T → Bool → Type 0) → Type 0
 NoneOutstanding {T} outstanding Answers = (number : ℕ) (request : T) → map.get outstanding number ≡ Some request → Answers request false
 
--- the number was issued and its answer never counted
+-- the Message ID was issued and its response never matched
 pub record IsUnanswered {T : Type 0} (r : OwnRequests T) (number : ℕ) : Type 0 where
   pub issued : number < r.next
   pub open_yet : LacksNumber r.answered number

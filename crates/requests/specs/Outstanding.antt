@@ -1,4 +1,4 @@
--- The outstanding requests of one association, one after the other by rising number.
+-- The outstanding requests of one IKE SA, one after the other by rising Message ID.
 use Rattle.std.specs.Prelude.{ℕ, List, Option}
 use Rattle.std.specs.Borrow.{Bor}
 use Rattle.std.specs.FinMap as map
@@ -6,7 +6,7 @@ use Rattle.std.specs.List.{filter}
 use Rattle.requests.specs.Outgoing.{OwnRequests, is_above}
 use Rattle.requests.specs.declared.outstanding.Outstanding.{Outstanding}
 
--- those above a number, or all
+-- those above a Message ID, or all
 abbrev pub outstanding_above : {T : Type 0} → OwnRequests T → Option ℕ → List (ℕ × T)
 outstanding_above r low = filter (λ e. is_above low e.0) (map.entries r.outstanding)
 
@@ -14,6 +14,6 @@ outstanding_above r low = filter (λ e. is_above low e.0) (map.entries r.outstan
 abbrev pub requests_left : {T : Type 0} → Outstanding T → List (ℕ × T)
 requests_left left = outstanding_above left.requests.now left.low
 
--- what it yields: a number and what is kept under it
+-- what it yields: a Message ID and what is kept under it
 abbrev pub numbered : {T : Type 0} → ℕ × Bor T → ℕ × T
 numbered item = (item.0, item.1.now)

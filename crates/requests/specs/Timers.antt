@@ -1,4 +1,4 @@
--- When a request goes out again (RFC 7296 sections 2.1 and 2.4). Moments and waits are in milliseconds.
+-- When a request goes out again (RFC 7296 sections 2.1 and 2.4). Times and waits are in milliseconds.
 use Rattle.std.specs.Prelude.{◌+◌, ◌<◌, ◌≤◌, ℕ, List, [], ◌∷◌, length, slice_index_or}
 use Rattle.requests.specs.declared.timer.Due.{Due}
 use Rattle.requests.specs.declared.timer.Due.TheVariants.{Nothing, Again, Over}
@@ -12,7 +12,7 @@ waits = 1000 ∷ 2000 ∷ 4000 ∷ 8000 ∷ 16000 ∷ []
 abbrev pub last_wait : ℕ
 last_wait = 16000
 
--- the moment from which on something is due: the last sending and the wait that stands next
+-- the time from which on something is due: the last sending and the wait that stands next
 abbrev pub due_from : Timer → ℕ
 due_from timer = timer.sent + slice_index_or waits timer.repeats last_wait
 

@@ -10,11 +10,11 @@ pub enum RequestFault {
     /// There was no memory for one more request. Nothing was changed.
     #[error("E10: no memory")]
     Memory,
-    /// The next number lies at the end of the peer's window, which begins at the least unanswered number,
-    /// or above it (RFC 7296 section 2.3). What was given up stays unanswered.
+    /// The next Message ID lies at the end of the peer's window, which begins at the least unanswered Message
+    /// ID, or above it (RFC 7296 section 2.3). What was given up stays unanswered.
     #[error("E35: the peer's window is full")]
     Busy,
-    /// All numbers up to 2^32 - 1 were issued (RFC 7296 section 2.2).
+    /// All Message IDs up to 2^32 - 1 were issued (RFC 7296 section 2.2).
     #[error("E36: the request numbers are spent")]
     NumbersSpent,
 }

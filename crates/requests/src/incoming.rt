@@ -1,4 +1,4 @@
-//! The peer's requests of one association.
+//! The peer's requests of one IKE SA.
 ghost use Rattle.std.specs.Prelude.{◌≡◌, ◌≤◌, OnOk, OnErr, IsOk};
 ghost use Rattle.requests.specs.Incoming.{IsJudgement, IsFreshRequest, IsSoundIncoming, HasSameRequests, TakesRequest, no_requests, after_number_0};
 
@@ -8,28 +8,28 @@ use base::Items;
 use std::alloc::{AllocError, Global};
 use std::marker::Model;
 
-/// What is to be done about a request of the peer, by its number.
+/// What is to be done about a request of the peer, by its Message ID.
 #[derive(Clone, Copy, Debug, PartialEq, Eq)]
 pub enum Judgement<'a> {
-    /// It takes effect: its number did not yet, and lies in the window.
+    /// It is processed: none with its Message ID was yet, and it lies in the window.
     Fresh,
-    /// It took effect, and is answered by these octets again (RFC 7296 section 2.1).
+    /// It was processed, and is answered by these octets again (RFC 7296 section 2.1).
     Repeat(&'a [u8]),
-    /// It took effect, and its reply is kept no more.
+    /// It was processed, and its response is kept no more.
     Forgotten,
-    /// Its number lies above the window (RFC 7296 section 2.3).
+    /// Its Message ID lies above the window (RFC 7296 section 2.3).
     Outside,
 }
 
-/// The peer's requests of one association: the numbers of those that took effect, and the replies that are
-/// kept to be sent again (RFC 7296 sections 2.1 to 2.3).
+/// The peer's requests of one IKE SA: the Message IDs of those that were processed, and the cached responses
+/// to be sent again (RFC 7296 sections 2.1 to 2.3).
 ///
-/// The window begins at the gap, the least number that did not take effect yet, and spans as many numbers
-/// as the peer may have under way: 1 to begin with, and up to 16. A reply is kept until a request takes
-/// effect that lies a window above its own.
+/// The window begins at the gap, the least Message ID that was not processed yet, and spans as many Message
+/// IDs as the peer may have under way: 1 to begin with, and up to 16. A response is kept until a request is
+/// processed that lies a window above its own.
 ///
-/// What it keeps beside the replies doesn't grow with the numbers, and each call costs the same whatever
-/// they are.
+/// What it keeps beside the responses doesn't grow with the Message IDs, and each call costs the same
+/// whatever they are.
 #[derive(Drop)]
 pub struct Incoming {
     in_effect: NumberSet,
@@ -56,8 +56,8 @@ impl Model for Incoming {
 }
 
 impl Incoming {
-    /// No request took effect yet, and the window is 1: the end of the association that sent IKE_SA_INIT.
-    /// Takes no memory.
+    /// No request was processed yet, and the window is 1: the end of the IKE SA that sent IKE_SA_INIT. Takes
+    /// no memory.
     pub fn new(alloc: Global) -> Incoming
         ensures { result ≡ no_requests }
     {
@@ -68,8 +68,8 @@ impl Incoming {
         }
     }
 
-    /// Number 0 is in effect, with no reply kept, and the window is 1: the end that answered the peer's
-    /// IKE_SA_INIT, whose number that was. Takes no memory.
+    /// Message ID 0 is in effect, with no response kept, and the window is 1: the end that answered the
+    /// peer's IKE_SA_INIT, whose Message ID that was. Takes no memory.
     pub fn after_initial(alloc: Global) -> Incoming
         ensures { result ≡ after_number_0 }
     {
@@ -87,7 +87,7 @@ impl Incoming {
         let _ = self.in_effect.gap();
     }
 
-    /// What is to be done about a request of this number. Takes no memory.
+    /// What is to be done about a request of this Message ID. Takes no memory.
     pub fn judge(&self, number: u32) -> Judgement<'_>
         ensures { IsJudgement self.now number result }
     {
@@ -103,7 +103,7 @@ impl Incoming {
         }
     }
 
-    /// Makes room for one more reply. Nothing else is changed. Where there is room already, as right after
+    /// Makes room for one more response. Nothing else is changed. Where there is room already, as right after
     /// another `prepare`, it takes no memory. Refused where there was none, with nothing changed.
     pub fn prepare(&mut self) -> Result<(), AllocError>
         ensures content { HasSameRequests self.old self.new }
@@ -114,9 +114,10 @@ impl Incoming {
         self.kept.make_room()
     }
 
-    /// A request took effect: its number counts from now on, and its reply is kept. The replies of the
-    /// numbers that it leaves behind are given up. The caller asks only for a number that
-    /// [`judge`](Incoming::judge) calls Fresh, after [`prepare`](Incoming::prepare). Takes no memory.
+    /// A request was processed: its Message ID is in effect from now on, and its response is kept. The
+    /// responses of the Message IDs a window or more below it are given up. The caller asks only for a
+    /// Message ID that [`judge`](Incoming::judge) calls Fresh, after [`prepare`](Incoming::prepare). Takes no
+    /// memory.
     pub fn take(&mut self, number: u32, reply: Items<u8>)
         requires fresh { IsFreshRequest self.old number }
         requires room { 1 ≤ self.old.room }
@@ -136,8 +137,8 @@ impl Incoming {
         self.size
     }
 
-    /// Lets the peer have more requests under way, up to 16. Nothing else is changed. The caller asks for
-    /// no fewer than before, so no kept reply is lost. Takes no memory.
+    /// Lets the peer have more requests under way, up to 16. Nothing else is changed. The caller asks for no
+    /// fewer than before, so no cached response is lost. Takes no memory.
     pub fn set_size(&mut self, size: u8)
         requires grows { self.old.size ≤ size }
         requires most { size ≤ 16 }
@@ -154,7 +155,7 @@ pub(crate) mod tests {
     use crate::numbers::tests::all_below;
     use std::alloc::Global;
 
-    /// All numbers below one of them are in effect, with no reply kept, and the window is 1.
+    /// All Message IDs below one of them are in effect, with no response kept, and the window is 1.
     pub fn after_all_below(alloc: Global, gap: u32) -> Incoming
         ensures { result.size ≡ 1 }
     {

@@ -1,5 +1,5 @@
 //! Facts about the definitions, each the contract of a function that does nothing: what becomes of the
-//! numbers over many calls, that answers are determined, and how often a request is sent.
+//! Message IDs over many calls, that answers are determined, and how often a request is sent.
 ghost use Rattle.std.specs.Prelude.{◌≡◌, ◌≢◌, ◌+◌, ◌≤◌, ℕ, Option};
 ghost use Rattle.base.specs.Octets.{Octets};
 ghost use Rattle.requests.specs.Contents.{incoming_content, outgoing_content};
@@ -13,9 +13,9 @@ ghost use Rattle.requests.specs.declared.incoming.Judgement.{Judgement};
 ghost use Rattle.requests.specs.declared.timer.Due.{Due};
 ghost use Rattle.requests.specs.declared.timer.Timer.{Timer};
 
-/// Each call leads from the peer's requests to ones that follow them: a number in effect stays in effect,
-/// no reply but the first is kept for it, and that one as long as no request a window above it took effect.
-/// Following is transitive, so this holds of any number of calls.
+/// Each call leads from the peer's requests to ones that follow them: a Message ID in effect stays in effect,
+/// no response but the first is kept for it, and that one as long as no request a window above it was
+/// processed. Following is transitive, so this holds of any number of calls.
 pub fn later_incoming_follow()
     ensures reflexive { (a : PeerRequests) → FollowsIncoming a a }
     ensures transitive { (a b c : PeerRequests)
@@ -27,14 +27,14 @@ pub fn later_incoming_follow()
         → old.size ≤ size → new ≡ record old { size = size } → FollowsIncoming old new }
 {}
 
-/// A number takes effect once, whatever is done between.
+/// A request of one Message ID is processed once, whatever is done between.
 pub fn no_number_takes_effect_twice()
     ensures { (a b c d : PeerRequests) (first second : ℕ) (reply other : Octets)
         → TakesRequest a first reply b → FollowsIncoming b c → TakesRequest c second other d
         → first ≢ second }
 {}
 
-/// Each call leads from this end's requests to ones that follow them: an answered number stays answered,
+/// Each call leads from this end's requests to ones that follow them: an answered Message ID stays answered,
 /// and what was given up stays unanswered. Following is transitive, so this holds of any number of calls.
 pub fn later_outgoing_follow<T>()
     ensures reflexive { (a : OwnRequests T) → FollowsOutgoing a a }
@@ -54,7 +54,7 @@ pub fn later_outgoing_follow<T>()
     ensures giving_up { (old new : OwnRequests T) → GivesUpRequests old new → FollowsOutgoing old new }
 {}
 
-/// A number is issued once, whatever is done between.
+/// A Message ID is issued once, whatever is done between.
 pub fn no_number_is_issued_twice<T>()
     ensures { (a b c d : OwnRequests T) (first second : ℕ) (one other : T)
         → IssuesRequest a one first b → FollowsOutgoing b c → IssuesRequest c other second d
@@ -81,7 +81,7 @@ pub fn answers_are_determined<T>()
     ensures due { (timer : Timer) (now : ℕ) (a b : Due) → IsDue timer now a → IsDue timer now b → a ≡ b }
 {}
 
-/// At one moment a request goes out again once at most: right after a sending nothing is due.
+/// At one time a request goes out again once at most: right after a sending nothing is due.
 pub fn a_moment_sends_once()
     ensures { (timer : Timer) (now : ℕ) → IsDue timer now Due.Again
         → IsDue (record { sent = now; repeats = timer.repeats + 1 }) now Due.Nothing }

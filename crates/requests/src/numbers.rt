@@ -1,4 +1,4 @@
-//! A set of request numbers.
+//! A set of Message IDs.
 ghost use Rattle.std.specs.Prelude.{◌≡◌, ◌+◌, ◌<◌, ◌^◌, ℕ, nat_eq, nat_lt};
 ghost use Rattle.std.specs.FinSet as set;
 ghost use Rattle.std.specs.Int.{bit_at};
@@ -6,8 +6,8 @@ ghost use Rattle.requests.specs.Numbers.{HasNumber, LacksNumber, IsGap};
 
 use std::marker::Model;
 
-// Request numbers that came mostly in order: all below the gap, which is the least number that is missing,
-// and those of the 15 behind it whose bits are set. Its size doesn't grow with the numbers.
+// Message IDs that came mostly in order: all below the gap, which is the least Message ID that is missing,
+// and those of the 15 behind it whose bits are set. Its size doesn't grow with the Message IDs.
 #[derive(Drop)]
 pub(crate) struct NumberSet {
     gap: u64,
@@ -30,21 +30,21 @@ impl Model for NumberSet {
 }
 
 impl NumberSet {
-    /// No numbers.
+    /// No Message IDs.
     pub fn new() -> NumberSet
         ensures { result ≡ set.empty }
     {
         NumberSet { gap: 0, marks: 0 }
     }
 
-    /// The number 0 alone.
+    /// The Message ID 0 alone.
     pub fn zero() -> NumberSet
         ensures { result ≡ set.insert set.empty 0 }
     {
         NumberSet { gap: 1, marks: 0 }
     }
 
-    /// The least number that is not in the set.
+    /// The least Message ID that is not in the set.
     pub fn gap(&self) -> u64
         ensures gap { IsGap self.now result }
         ensures fits { (n : ℕ) → HasNumber self.now n → n < 2 ^ 32 }
@@ -52,7 +52,7 @@ impl NumberSet {
         self.gap
     }
 
-    /// Whether a number is in the set.
+    /// Whether a Message ID is in the set.
     pub fn contains(&self, number: u32) -> bool
         ensures { result ≡ set.contains self.now number }
     {
@@ -60,7 +60,7 @@ impl NumberSet {
         number < self.gap || is_marked(self.marks, number - self.gap)
     }
 
-    /// Adds a number that lies less than 16 above the gap.
+    /// Adds a Message ID that lies less than 16 above the gap.
     pub fn insert(&mut self, number: u32)
         requires new_number { LacksNumber self.old number }
         requires near { (gap : ℕ) → IsGap self.old gap → number < gap + 16 }
@@ -85,7 +85,7 @@ fn is_marked(marks: u16, place: u64) -> bool
 pub(crate) mod tests {
     use super::NumberSet;
 
-    /// All numbers below one of them.
+    /// All Message IDs below one of them.
     pub fn all_below(gap: u32) -> NumberSet
         ensures { (n : ℕ) → set.contains result n ≡ nat_lt n gap }
     {

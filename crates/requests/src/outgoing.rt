@@ -1,4 +1,4 @@
-//! This end's requests of one association.
+//! This end's requests of one IKE SA.
 ghost use Rattle.std.specs.Prelude.{◌≡◌, ◌≤◌, IsOk, IfOk, IfErr, IfSome, IfNone, ℕ, None, ◌≢◌};
 ghost use Rattle.std.specs.Bool.{MatchBool};
 ghost use Rattle.std.specs.Fn.{FnReturnsAt};
@@ -13,14 +13,14 @@ use crate::numbers::NumberSet;
 use std::alloc::Global;
 use std::marker::Model;
 
-/// This end's requests of one association: the numbers issued, those answered, and the requests that wait
-/// for an answer, each with what the caller keeps of it (RFC 7296 sections 2.1 to 2.3).
+/// This end's requests of one IKE SA: the Message IDs issued, those answered, and the requests that wait for
+/// an answer, each with what the caller keeps of it (RFC 7296 sections 2.1 to 2.3).
 ///
-/// A request comes in two steps, so that nothing is issued in vain: [`prepare`](Outgoing::prepare) makes
-/// room and tells the number, by which the caller makes the message, and [`issue`](Outgoing::issue) cannot
-/// be refused. No number is issued twice.
+/// A request comes in two steps, so that nothing is issued in vain: [`prepare`](Outgoing::prepare) makes room
+/// and tells the Message ID, by which the caller makes the message, and [`issue`](Outgoing::issue) cannot be
+/// refused. No Message ID is issued twice.
 ///
-/// What it keeps beside the outstanding requests doesn't grow with the numbers, and each call costs the
+/// What it keeps beside the outstanding requests doesn't grow with the Message IDs, and each call costs the
 /// same whatever they are.
 #[derive(Drop)]
 pub struct Outgoing<T> {
@@ -62,7 +62,7 @@ impl<T> Outgoing<T> {
         }
     }
 
-    /// Number 0 was issued and answered, and the peer's window is 1: the end of the association whose
+    /// Message ID 0 was issued and answered, and the peer's window is 1: the end of the IKE SA whose
     /// IKE_SA_INIT that was. Takes no memory.
     pub fn after_initial(alloc: Global) -> Self
         ensures { result ≡ number_0_answered }
@@ -99,11 +99,10 @@ impl<T> Outgoing<T> {
         self.window = window;
     }
 
-    /// The number that the next request is to have, the least that was never issued. Takes no memory.
+    /// The Message ID that the next request is to have, the least that was never issued. Takes no memory.
     ///
-    /// Refused, in this order: [`RequestFault::Busy`] where it lies at the end of the peer's window or
-    /// above it, which begins at the least unanswered number; [`RequestFault::NumbersSpent`] where it is
-    /// 2^32.
+    /// Refused, in this order: [`RequestFault::Busy`] where it lies at the end of the peer's window or above
+    /// it, which begins at the least unanswered Message ID; [`RequestFault::NumbersSpent`] where it is 2^32.
     pub fn may_issue(&self) -> Result<u32, RequestFault>
         ensures ok { IfOk result (λ number. (number ≡ self.now.next) × MayIssue self.now) }
         ensures refused { IfErr result (λ fault.
@@ -118,7 +117,7 @@ impl<T> Outgoing<T> {
         }
     }
 
-    /// Makes room for one more request, and tells the number that [`issue`](Outgoing::issue) gives it.
+    /// Makes room for one more request, and tells the Message ID that [`issue`](Outgoing::issue) gives it.
     /// Nothing else is changed. Where there is room already, as right after another `prepare`, it takes no
     /// memory.
     ///
@@ -138,7 +137,7 @@ impl<T> Outgoing<T> {
         Ok(number)
     }
 
-    /// Issues a request, which is outstanding from now on, and answers its number. The caller asks only
+    /// Issues a request, which is outstanding from now on, and answers its Message ID. The caller asks only
     /// after a [`prepare`](Outgoing::prepare) that answered Ok. Takes no memory.
     pub fn issue(&mut self, request: T) -> u32
         requires allowed { MayIssue self.old }
@@ -152,7 +151,7 @@ impl<T> Outgoing<T> {
     }
 
     /// The answer to a request came: the request is answered from now on and outstanding no more, and what
-    /// was kept of it is given back. The caller asks only for an outstanding number. Takes no memory.
+    /// was kept of it is given back. The caller asks only for an outstanding Message ID. Takes no memory.
     pub fn count(&mut self, number: u32) -> T
         requires { IsOutstanding self.old number }
         ensures { CountsAnswer self.old number result self.new }
@@ -161,8 +160,8 @@ impl<T> Outgoing<T> {
         self.outstanding.remove(number)
     }
 
-    /// Takes an outstanding request back unanswered, and what was kept of it with it: its number stays
-    /// unanswered and is never issued again. The caller asks only for an outstanding number. Takes no
+    /// Takes an outstanding request back unanswered, and what was kept of it with it: its Message ID stays
+    /// unanswered and is never issued again. The caller asks only for an outstanding Message ID. Takes no
     /// memory.
     pub fn withdraw(&mut self, issued: u32) -> T
         requires { IsOutstanding self.old issued }
@@ -179,7 +178,7 @@ impl<T> Outgoing<T> {
     }
 
     /// Puts something else in the place of what is kept of an outstanding request, which it gives back: a
-    /// timer that runs anew. The caller asks only for an outstanding number. Takes no memory.
+    /// timer that runs anew. The caller asks only for an outstanding Message ID. Takes no memory.
     pub fn replace(&mut self, number: u32, request: T) -> T
         requires { IsOutstanding self.old number }
         ensures { ReplacesRequest self.old number result request self.new }
@@ -187,8 +186,8 @@ impl<T> Outgoing<T> {
         self.outstanding.replace(number, request)
     }
 
-    /// Changes what is kept of an outstanding request, as its timer that runs anew. The caller asks only
-    /// for an outstanding number. Takes no memory, but for what the change takes.
+    /// Changes what is kept of an outstanding request, as its timer that runs anew. The caller asks only for
+    /// an outstanding Message ID. Takes no memory, but for what the change takes.
     pub fn update<F: FnOnce(T) -> T>(&mut self, number: u32, change: F)
         requires outstanding { IsOutstanding self.old number }
         requires callable { F.IsAlwaysCallable change }
@@ -206,7 +205,7 @@ impl<T> Outgoing<T> {
         self.outstanding.len()
     }
 
-    /// The next outstanding request by number, the first for None. From None on, one after the other, all
+    /// The next outstanding request by Message ID, the first for None. From None on, one after the other, all
     /// are found. Takes no memory.
     pub fn after(&self, number: Option<u32>) -> Option<(u32, &T)>
         ensures some { IfSome result (λ next. IsNextOutstanding self.now number next.0 next.1.now) }
@@ -233,7 +232,7 @@ pub(crate) mod tests {
     use crate::numbers::tests::all_below;
     use std::alloc::Global;
 
-    /// All numbers below one of them were issued and answered, and the peer's window is 1.
+    /// All Message IDs below one of them were issued and answered, and the peer's window is 1.
     pub fn after_all_below(alloc: Global, next: u32) -> Outgoing<u32>
         ensures { result.window ≡ 1 }
     {

@@ -6,8 +6,8 @@ ghost use Rattle.requests.specs.Outstanding.{numbered, requests_left};
 
 use crate::Outgoing;
 
-/// The requests that wait for an answer, each with its number, by rising number: what [`Outgoing::iter`]
-/// gives.
+/// The requests that wait for an answer, each with its Message ID, by rising Message ID: what
+/// [`Outgoing::iter`] gives.
 #[derive(Drop)]
 pub struct Outstanding<'a, T> {
     requests: &'a Outgoing<T>,
@@ -29,7 +29,7 @@ impl<'a, T> Iterator for Outstanding<'a, T> {
 }
 
 impl<T> Outgoing<T> {
-    /// The requests that wait for an answer, each with its number, by rising number. Takes no memory.
+    /// The requests that wait for an answer, each with its Message ID, by rising Message ID. Takes no memory.
     pub fn iter(&self) -> Outstanding<'_, T>
         ensures { requests_left result ≡ map.entries self.now.outstanding }
     {

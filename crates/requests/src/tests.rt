@@ -1,4 +1,4 @@
-//! The last numbers of 32 bits. No public call comes near them, so these two stand here; the other tests
+//! The last Message IDs of 32 bits. No public call comes near them, so these two stand here; the other tests
 //! stand in `test_packet_calls`.
 ghost use Rattle.std.specs.Prelude.{IsTrue, IsSome};
 ghost use Rattle.requests.specs.Incoming.{IsFreshRequest};
@@ -8,7 +8,7 @@ use base::Items;
 use std::alloc::{AllocError, Global};
 use std::test::Fail;
 
-/// Whether a number is fresh.
+/// Whether a Message ID is fresh.
 fn is_fresh(incoming: &Incoming, number: u32) -> bool
     ensures { IsTrue result → IsFreshRequest incoming.now number }
 {
@@ -18,7 +18,7 @@ fn is_fresh(incoming: &Incoming, number: u32) -> bool
     }
 }
 
-/// Takes a number without a reply, if it is fresh, and answers whether it was.
+/// Takes a Message ID without a response, if it is fresh, and answers whether it was.
 fn accept(incoming: &mut Incoming, alloc: Global, number: u32) -> Result<bool, AllocError> {
     if !is_fresh(incoming, number) {
         return Ok(false);

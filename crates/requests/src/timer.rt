@@ -9,30 +9,30 @@ const WAITS: [u64; 5] = [1000, 2000, 4000, 8000, 16_000];
 // How long an answer is waited for after the last time, in milliseconds.
 const LAST_WAIT: u64 = 16_000;
 
-/// What is to be done about a request at a moment.
+/// What is to be done about a request at a time.
 #[derive(Clone, Copy, Debug, PartialEq, Eq)]
 pub enum Due {
     /// Its answer is still waited for.
     Nothing,
     /// It is to go out again.
     Again,
-    /// No answer came to its last sending: the association has failed (RFC 7296 section 2.4).
+    /// No answer came to its last sending: the IKE SA has failed (RFC 7296 section 2.4).
     Over,
 }
 
 /// The timer of one request: when its octets go out again, and when no answer is waited for any more (RFC
-/// 7296 sections 2.1 and 2.4). Moments are in milliseconds from any beginning, and may take any value of 64
+/// 7296 sections 2.1 and 2.4). Times are in milliseconds from any beginning, and may take any value of 64
 /// bits.
 #[derive(Clone, Copy, Debug, PartialEq, Eq)]
 pub struct Timer {
-    /// The moment at which it was sent last.
+    /// The time at which it was sent last.
     pub sent: u64,
     /// How often it was sent again.
     pub repeats: u8,
 }
 
 impl Timer {
-    /// The timer of a request that is sent for the first time at this moment.
+    /// The timer of a request that is first sent at this time.
     pub fn started(now: u64) -> Timer
         ensures { result ≡ record { sent = now; repeats = 0 } }
     {
@@ -42,9 +42,9 @@ impl Timer {
         }
     }
 
-    /// What is due at a moment: nothing before the last sending and the wait that stands next, then one
-    /// more sending, or the end after the fifth. The waits are 1000, 2000, 4000, 8000 and 16,000 ms, and
-    /// 16,000 ms after the last sending.
+    /// What is due at a time: nothing before the last sending and the wait that stands next, then one more
+    /// sending, or the end after the fifth. The waits are 1000, 2000, 4000, 8000 and 16,000 ms, and 16,000 ms
+    /// after the last sending.
     pub fn due(&self, now: u64) -> Due
         ensures { IsDue self.now now result }
     {
@@ -58,8 +58,8 @@ impl Timer {
         }
     }
 
-    /// The least moment at which something is due ([`due`](Timer::due)), in milliseconds. None where that
-    /// would be past 64 bits: then nothing is due at any moment.
+    /// The earliest time at which something is due ([`due`](Timer::due)), in milliseconds. None where that
+    /// would be past 64 bits: then nothing is due at any time.
     pub fn moment(&self) -> Option<u64>
         ensures { SomeIff result (due_from self.now < 2 ^ 64) (due_from self.now) }
     {
@@ -76,8 +76,8 @@ impl Timer {
         }
     }
 
-    /// The timer after a sending at a moment at which one is due. However late the moment, the next wait
-    /// counts from it.
+    /// The timer after a sending at a time at which one is due. However late the time, the next wait counts
+    /// from it.
     pub fn sent_again(self, now: u64) -> Timer
         requires { IsDue self now Due.Again }
         ensures { result ≡ record { sent = now; repeats = self.repeats + 1 } }

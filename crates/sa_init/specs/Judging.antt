@@ -17,15 +17,15 @@ use Rattle.sa_init.specs.declared.judging.Judgement.TheVariants as judged
 use Rattle.sa_init.specs.declared.judging.Offer.{Offer}
 use Rattle.sa_init.specs.declared.judging.Sender.{Sender}
 
--- half-open associations from which on a cookie is asked for
+-- half-open IKE SAs from which on a cookie is asked for
 abbrev pub COOKIE_THRESHOLD : ℕ
 COOKIE_THRESHOLD = 8
 
--- half-open associations from which on no other is begun
+-- half-open IKE SAs from which on no other is begun
 abbrev pub HALF_OPEN_LIMIT : ℕ
 HALF_OPEN_LIMIT = 32
 
--- associations, half open or not, from which on no other is begun
+-- IKE SAs, half open or not, from which on no other is begun
 abbrev pub ASSOCIATION_LIMIT : ℕ
 ASSOCIATION_LIMIT = 128
 

@@ -16,7 +16,7 @@ use Rattle.exchange.specs.Headers.{sent_header}
 use Rattle.exchange.specs.Notices.{payload_of_notice, returned_cookie}
 use Rattle.suite.specs.Offers.{answer_of, offer_of}
 
--- what an association is to have by the caller's cipher and group
+-- what an IKE SA is to have by the caller's cipher and group
 abbrev pub ike_wanted : Cipher → ℕ → Wanted
 ike_wanted cipher group = Ike cipher.id cipher.key_length group
 
@@ -53,7 +53,7 @@ answer_message cipher group public chosen nonce spi_i spi_r =
       payloads = answer_payloads cipher group public chosen nonce;
     }
 
--- the answer of a responder that keeps nothing of the request: a notice alone, and no SPI of its own
+-- the answer of a responder that keeps nothing of the request: a notification alone, and no SPI of its own
 abbrev pub notice_message : ℕ → Notice → Message
 notice_message spi_i notice =
     record {

@@ -9,7 +9,7 @@ use std::alloc::{AllocError, Global};
 use suite::{Agreement, Sealer, Wanted};
 use wire::{Payload, Proposal};
 
-/// What an association is to have, by numbers of 16 bits.
+/// What an IKE SA is to have, by numbers of 16 bits.
 pub fn wanted_by<C: Sealer + Agreement>(caller: &C) -> Wanted
     ensures same { result ≡ ike_wanted C.cipher C.group_number }
     ensures fits { FitsTransforms C.cipher C.group_number }
@@ -17,7 +17,7 @@ pub fn wanted_by<C: Sealer + Agreement>(caller: &C) -> Wanted
     Wanted::ike(caller)
 }
 
-/// SA, KE and Nonce, behind the payloads before them. An error is for want of memory alone.
+/// SA, KE and Nonce, behind the payloads before them. The only error is an allocation failure.
 pub fn push_agreeing<C: Agreement>(
     alloc: Global,
     caller: &C,

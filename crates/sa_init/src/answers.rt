@@ -17,7 +17,7 @@ use suite::{Agreement, Fresh, KeyRecord, Sealer, ike_keys};
 use wire::Message;
 use wire::numbers::IKE_SA_INIT;
 
-/// An answer that accepts an offer, and the keys of the association that it makes.
+/// An answer that accepts an offer, and the keys of the IKE SA that it makes.
 #[derive(Debug, Drop)]
 pub struct Agreed {
     pub record: KeyRecord,
@@ -27,7 +27,7 @@ pub struct Agreed {
 
 /// The answer to an offer that was accepted, and the keys that follow: SA with the chosen proposal, KE and
 /// Nonce, with the SPI, the secret and the nonce that are fresh. `None` (E32) exactly where the agreement
-/// refuses the public value. An error is for want of memory alone.
+/// refuses the public value. The only error is an allocation failure.
 ///
 /// What is accepted of a message that was decoded fits (`accepted_offers_fit` in [`laws`](crate::laws)).
 pub fn answer<C: Sealer + Agreement>(
@@ -88,8 +88,8 @@ fn answer_message<C: Sealer + Agreement>(
     })
 }
 
-/// The answer of a responder that keeps nothing of the request: a notice alone, with no SPI of its own. An
-/// error is for want of memory alone.
+/// The answer of a responder that keeps nothing of the request: a notification alone, with no SPI of its own.
+/// The only error is an allocation failure.
 pub fn refuse(alloc: Global, spi_i: u64, notice: &Notice) -> Result<Items<u8>, AllocError>
     ensures { IfOk result (SpellsPlainly (notice_message spi_i notice.now)) }
 {

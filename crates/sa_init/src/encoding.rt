@@ -10,7 +10,7 @@ use std::alloc::{AllocError, Global};
 use wire::laws::{messages_that_fit_are_spelled, plain_spellings_are_spellings};
 use wire::{Message, WireFault, encode_message};
 
-/// The octets of a message that fits. An error is for want of memory alone.
+/// The octets of a message that fits. The only error is an allocation failure.
 pub fn octets_of(alloc: Global, message: &Message) -> Result<Items<u8>, AllocError>
     requires { FitsMessage message.now }
     ensures { IfOk result (SpellsPlainly message.now) }

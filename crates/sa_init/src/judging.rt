@@ -9,13 +9,13 @@ use exchange::{Notice, leading_cookie, unknown_critical};
 use suite::{Agreement, Chosen, Sealer, Wanted, choose};
 use wire::Payload;
 
-/// So many half-open associations there are from which on a cookie is asked for.
+/// So many half-open IKE SAs there are from which on a cookie is asked for.
 pub const COOKIE_THRESHOLD: usize = 8;
 
-/// So many half-open associations there are at most.
+/// So many half-open IKE SAs there are at most.
 pub const HALF_OPEN_LIMIT: usize = 32;
 
-/// So many associations there are at most.
+/// So many IKE SAs there are at most.
 pub const ASSOCIATION_LIMIT: usize = 128;
 
 /// Where a request came from.
@@ -23,7 +23,7 @@ pub const ASSOCIATION_LIMIT: usize = 128;
 pub struct Sender {
     /// The address that it was sent from.
     pub address: [u8; 4],
-    /// The SPI by which it names the association, not zero.
+    /// The SPI by which it names the IKE SA, not zero.
     pub spi_i: u64,
 }
 
@@ -41,27 +41,27 @@ pub struct Offer<'a> {
 /// What a responder makes of a request.
 #[derive(Clone, Copy, Debug, PartialEq, Eq)]
 pub enum Judgement<'a> {
-    /// It is answered with this notice, and nothing of it is kept.
+    /// It is answered with this notification, and nothing of it is kept.
     Answered(Notice),
     /// E32: an SA, a KE or a Nonce is missing in it, or stands there twice.
     Incomplete,
-    /// E34: there is no room for another association.
+    /// E34: there is no room for another IKE SA.
     Full,
     /// It is accepted.
     Accepted(Offer<'a>),
 }
 
-/// What a responder makes of the payloads of a request, with so many associations half open, of so many
-/// that it holds. The first that applies, in this order:
+/// What a responder makes of the payloads of a request, with so many IKE SAs half open, of so many that it
+/// holds. The first that applies, in this order:
 ///
-/// 1. An unknown payload is marked as critical: the notice UNSUPPORTED_CRITICAL_PAYLOAD (RFC 7296, section
-///    2.5).
+/// 1. An unknown payload is marked as critical: the UNSUPPORTED_CRITICAL_PAYLOAD notification (RFC 7296,
+///    section 2.5).
 /// 2. There is not one SA, one KE and one Nonce: [`Judgement::Incomplete`].
-/// 3. [`COOKIE_THRESHOLD`] or more are half open, and the first payload is no right cookie: the notice
-///    COOKIE (section 2.6). With fewer a cookie isn't looked at.
+/// 3. [`COOKIE_THRESHOLD`] or more are half open, and the first payload is no right cookie: the COOKIE
+///    notification (section 2.6). With fewer a cookie isn't looked at.
 /// 4. [`HALF_OPEN_LIMIT`] are half open, or [`ASSOCIATION_LIMIT`] are held: [`Judgement::Full`].
-/// 5. No proposal is acceptable, or the KE is of another group than the caller's: the notice
-///    NO_PROPOSAL_CHOSEN (section 2.7).
+/// 5. No proposal is acceptable, or the KE is of another group than the caller's: the NO_PROPOSAL_CHOSEN
+///    notification (section 2.7).
 /// 6. [`Judgement::Accepted`].
 ///
 /// Takes no memory.

@@ -58,8 +58,8 @@ pub fn judgements_are_determined()
     choices_are_determined();
 }
 
-/// While many associations are half open, nothing is accepted but with a right cookie; and nothing where
-/// there is no room. Does nothing.
+/// While many IKE SAs are half open, nothing is accepted but with a right cookie; and nothing where there is
+/// no room. Does nothing.
 pub fn acceptance_is_limited()
     ensures cookie { (cipher : Cipher) (group : ℕ) (secrets : CookieSecrets) (sender : Sender)
         (half_open held : ℕ) (payloads : List Payload) (offer : OfferView) → COOKIE_THRESHOLD ≤ half_open

@@ -1,10 +1,10 @@
 //! The exchange IKE_SA_INIT: what its two messages say and do (RFC 7296, sections 1.2, 2.6, 2.7, 2.10 and
-//! 2.14). No list of associations, no message ID and no timer is known here.
+//! 2.14). No list of IKE SAs, no Message ID and no timer is known here.
 //!
 //! An initiator sends what [`request`] makes, and [`read`] tells what the response to it means: keys, a
 //! cookie that is to be brought back, or nothing. A responder lets [`judge`] look at a request, and sends
-//! what [`answer`] makes of an [`Offer`] that is accepted, or the notice of a [`Judgement`] by [`refuse`].
-//! While many associations are half open it asks for a cookie under its [`Cookies`], so that it keeps
+//! what [`answer`] makes of an [`Offer`] that is accepted, or the notification of a [`Judgement`] by
+//! [`refuse`]. While many IKE SAs are half open it asks for a cookie under its [`Cookies`], so that it keeps
 //! nothing for a sender that can't be reached.
 //!
 //! ```text

@@ -14,9 +14,9 @@ use suite::{Agreement, Sealer, offer};
 use wire::numbers::IKE_SA_INIT;
 use wire::{Message, Payload};
 
-/// The request of an initiator of this SPI: SA, KE and Nonce, with the public value of a secret and a
-/// nonce, both fresh for the association. A cookie that a responder asked for, of at most 64 octets, stands
-/// before them, and nothing else changes (RFC 7296, section 2.6). An error is for want of memory alone.
+/// The request of an initiator of this SPI: SA, KE and Nonce, with the public value of a secret and a nonce,
+/// both fresh for the IKE SA. A cookie that a responder asked for, of at most 64 octets, stands before them,
+/// and nothing else changes (RFC 7296, section 2.6). The only error is an allocation failure.
 pub fn request<C: Sealer + Agreement>(
     alloc: Global,
     caller: &C,

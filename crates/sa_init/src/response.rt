@@ -40,7 +40,7 @@ pub enum Response<'a> {
     Unfit,
 }
 
-/// What an initiator makes of a response to its request. An error is for want of memory alone.
+/// What an initiator makes of a response to its request. The only error is an allocation failure.
 ///
 /// [`Response::Cookie`] where a cookie is the only payload, the responder's SPI is zero, the request did
 /// not carry the same cookie, and fewer than [`COOKIES_TAKEN_LIMIT`] were taken. [`Response::Keys`] where

@@ -30,7 +30,7 @@ taken_still : (is_n was in_span : Bool) → was ≡ true → in_span ≡ true �
 taken_still true was in_span one two = two
 taken_still false was in_span one two = cc
 
--- what is fresh after a number was taken was fresh before
+-- what is fresh after a sequence number was taken was fresh before
 fresh_before : (was is : Seen) (m n : ℕ) → Takes was m is → IsFresh is n → IsFresh was n
 fresh_before was is m n takes fresh_now =
     let top = takes.top in
@@ -115,7 +115,7 @@ module _ (a b c : Database) (first : Follows a b) (second : Follows b c) where
         new_pairs = later_pair;
       }
 
--- where no pair is added, changed or taken out
+-- where no SA pair is added, changed or taken out
 module _ (old new : Database) (pairs : new.pairs ≡ old.pairs) (sound : IsSoundTable old) where
   kept_pairs : (serial : ℕ) (pair : Pair) → pair_at new.pairs serial ≡ Some pair → serial < old.next → WasSamePair old serial pair
   kept_pairs serial pair there below = record { was = pair; there = ap (λ m. map.get m serial) (sym pairs) ∙ there; same = same_pair pair }
@@ -222,7 +222,7 @@ after_removing old new serial sound is =
       new_pairs = λ n held there above. absurd (let given = sound.serial_given n held (was n held there) in let below = given.1 in omega arith);
     }
 
--- one pair is another state of itself, and nothing else is changed
+-- one SA pair is another state of itself, and nothing else is changed
 pub after_changing : (old new : Database) (serial : ℕ) (was is : Pair) → IsSoundTable old → pair_at old.pairs serial ≡ Some was → IsSamePair was is
     → new ≡ record old { pairs = new.pairs } → new.pairs ≡ map.insert old.pairs serial is → Follows old new
 after_changing old new serial was is sound there same rest pairs =
@@ -256,7 +256,7 @@ after_emptying old new ike sound is =
       new_pairs = λ n held there above. absurd (let given = sound.serial_given n held (was n held there) in let below = given.1 in omega arith);
     }
 
--- what changed of the pairs alone
+-- what changed of the SA pairs alone
 rest_of : (old new : Database) (pairs : PairMap) → new ≡ record old { pairs = pairs } → new ≡ record old { pairs = new.pairs }
 rest_of old new pairs content = content ∙ ap (λ ps. record old { pairs = ps }) (sym (ap (λ d. d.pairs) content))
 
@@ -310,7 +310,7 @@ after_sealing old new serial next payload before number after sound is =
       window = same_window is.pair.inbound.window;
     }) (rest_of old new _ is.changed.content) (ap (λ d. d.pairs) is.changed.content)
 
--- a pair that has an SPI for which one may come, at a sound table that has it already
+-- an SA pair that has an SPI for which one may come, at a sound table that has it already
 no_pair_may_come : (d : Database) (serial spi : ℕ) → IsSoundTable d → HasInbound d.pairs spi serial → MayCome d spi → ⊥
 no_pair_may_come d serial spi sound held (inl reserved) = sound.spi_taken serial spi held reserved
 no_pair_may_come d serial spi sound held (inr above) = let given = (sound.spi_given serial spi held).before_next in omega arith

@@ -43,7 +43,7 @@ held_is_not_reserved Reserved is = cc
 held_is_not_reserved (Held other) is = refl
 held_is_not_reserved Gone is = refl
 
--- an SPI that a pair has, given up
+-- an SPI that an SA pair has, given up
 pub record Freed (now : GivenSpis) (start : ℕ) (places : List Place) (capacity reserved spi : ℕ) : Type 0 where
   pub place : HasPlace start places spi
   pub sound : AreGiven start (slice_set places (spi - start) Gone) reserved
@@ -111,7 +111,7 @@ pub released : (now : GivenSpis) (start : ℕ) (places : List Place) (capacity r
 released now start places capacity reserved spi is sound =
     subst (λ x. set.contains x.reserved spi ≡ true → Released x start places capacity reserved spi) is (released_shown start places capacity reserved spi sound)
 
--- a reserved SPI, which a pair has from then on
+-- a reserved SPI, which an SA pair has from then on
 pub record Taken (now : GivenSpis) (start : ℕ) (places : List Place) (capacity reserved spi serial : ℕ) : Type 0 where
   pub place : HasPlace start places spi
   pub some : 1 ≤ reserved

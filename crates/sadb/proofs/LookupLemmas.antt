@@ -21,7 +21,7 @@ one_of_them a b one two =
       | inr (_, above) ↦ absurd (two (omega arith))
     ]
 
--- two pairs that stand under their own serials, which are one
+-- two SA pairs that stand under their own serials, which are one
 one_pair : (pairs : PairMap) (a b : Pair) → map.get pairs a.serial ≡ Some a → map.get pairs b.serial ≡ Some b → a.serial ≡ b.serial → a ≡ b
 one_pair pairs a b first second same = ap (λ o. unwrap_or o a) (sym first ∙ ap (map.get pairs) same ∙ second)
 

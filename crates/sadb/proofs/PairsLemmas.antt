@@ -1,4 +1,4 @@
--- What a by_serial of pairs shows, and how it changes.
+-- What a by_serial of SA pairs shows, and how it changes.
 use Rattle.std.proofs.Common.{◌≡◌, ◌≢◌, ◌+◌, ◌-◌, ◌<◌, ◌≤◌, ◌⊎◌, ◌++◌, ◌∷◌, [], ℕ, zero, suc, List, length, set, get_or, true, cond, Option, Some, None, is_some, IsSome, IfSome, IsSomeAnd, Contains, Bor, min, count_by, arith, sym, ap, ◌∙◌, refl, inl, inr, subst, rules}
 use Rattle.std.proofs.lemmas.Bool.{cases_eq, cases_lt}
 use Rattle.std.proofs.lemmas.List.{get_or-set_same, get_or-set_other, get_or_past, get_or_append_left, length_push}
@@ -22,7 +22,7 @@ cases_option : {X : Type 0} (o : Option X) → (o ≡ None) ⊎ ((x : X) × (o �
 cases_option None = inl refl
 cases_option (Some x) = inr (x, refl)
 
--- the pair of the serial i + 1
+-- the SA pair of the serial i + 1
 abbrev pair_at : List (Option ℕ) → Slab Pair → ℕ → Option Pair
 pair_at keys slab i = at_key slab (slab_key_at keys i)
 
@@ -40,7 +40,7 @@ shown_at keys slab (suc i) =
 in_range : (keys : List (Option ℕ)) (index key : ℕ) → slab_key_at keys index ≡ Some key → index < length keys
 in_range keys index key at = grind (arith, get_or_past)
 
--- a pair with its serial, the index of its key, and that key
+-- an SA pair with its serial, the index of its key, and that key
 pub record Found (keys : List (Option ℕ)) (slab : Slab Pair) (serial index key : ℕ) (pair : Pair) : Type 0 where
   pub next : serial ≡ index + 1
   pub within : index < length keys
@@ -98,7 +98,7 @@ others_kept keys old new index key slot by_serial at updates other apart =
           ∙ sym (ap (at_key old) some.1)
     ]
 
--- the window of each pair is sound
+-- the window of each SA pair is sound
 abbrev AreSound : Slab Pair → Type 0
 AreSound slab = (key : ℕ) (pair : Pair) → get slab key ≡ Some pair → IsSoundWindow pair.inbound.window
 
@@ -120,7 +120,7 @@ by_serial_grown keys keys' old new same_keys grown by_serial =
     let roomy : IsIndexed keys (record old { capacity = new.capacity }) = record { there = by_serial.there; back = by_serial.back; counted = by_serial.counted; windows = by_serial.windows } in
     subst (λ (ks : List (Option ℕ)). IsIndexed ks new) (sym same_keys) (subst (λ (slab : Slab Pair). IsIndexed keys slab) (sym grown) roomy)
 
--- A pair is changed.
+-- An SA pair is changed.
 module _ (keys : List (Option ℕ)) (old new : Slab Pair) (serial index key : ℕ) (pair changed : Pair) (by_serial : IsIndexed keys old) (f : Found keys old serial index key pair) (updates : Updates old new key (Some changed)) where
   pub shown_changed : shown_pairs keys new ≡ map.insert (shown_pairs keys old) serial changed
   shown_changed =
@@ -159,7 +159,7 @@ len_with_value slab key pair changed there =
     let here : weigh (get slab key) ≡ 1 = ap weigh there in
     omega (arith, sum_by-set weigh slab.slots key (Some changed) None within)
 
--- A pair is added at the end.
+-- An SA pair is added at the end.
 module _ (keys : List (Option ℕ)) (old new : Slab Pair) (key : ℕ) (pair : Pair) (by_serial : IsIndexed keys old) (vacant : get old key ≡ None) (updates : Updates old new key (Some pair)) where
   abbrev longer : List (Option ℕ)
   longer = keys ++ Some key ∷ []
@@ -246,7 +246,7 @@ module _ (keys : List (Option ℕ)) (old new : Slab Pair) (key : ℕ) (pair : Pa
         windows = windows_after old new key (Some pair) by_serial.windows updates (sound_some pair sound);
       }
 
--- A pair is taken out.
+-- An SA pair is taken out.
 module _ (keys : List (Option ℕ)) (old new : Slab Pair) (serial index key : ℕ) (pair : Pair) (by_serial : IsIndexed keys old) (f : Found keys old serial index key pair) (updates : Updates old new key None) where
   abbrev cleared : List (Option ℕ)
   cleared = set keys index None
@@ -344,7 +344,7 @@ has_key : (slab : Slab Pair) (key : Option ℕ) → IsSome (at_key slab key) →
 has_key slab None some = some
 has_key slab (Some key) some = refl
 
--- where the pair under a key stands
+-- where the SA pair under a key stands
 pub record Located (keys : List (Option ℕ)) (slab : Slab Pair) (serial key : ℕ) (pair : Pair) : Type 0 where
   pub index : ℕ
   pub found : Found keys slab serial index key pair
@@ -357,7 +357,7 @@ located keys slab (suc index) key pair at there =
       found = record { next = omega arith; within = in_range keys index key at; at = at; there = there };
     }
 
--- a key that was looked up leads to the pair of the view
+-- a key that was looked up leads to the SA pair of the view
 module _ (keys : List (Option ℕ)) (slab : Slab Pair) (pairs : map.FinMap nat_cmp Pair) (serial : ℕ) (shown : shown_pairs keys slab ≡ pairs) where
   pub key_given : IsSome (map.get pairs serial) → IsSome (key_of keys serial)
   key_given some = has_key slab (key_of keys serial) (subst (λ (o : Option Pair). IsSome o) (get_shown keys slab pairs shown serial) some)
@@ -368,7 +368,7 @@ module _ (keys : List (Option ℕ)) (slab : Slab Pair) (pairs : map.FinMap nat_c
   pub pair_given : (key : ℕ) → key_of keys serial ≡ Some key → IsSome (map.get pairs serial) → IsSome (get slab key)
   pair_given key at some = subst (λ (o : Option Pair). IsSome o) (get_at_key key at) some
 
-  -- a pair that is changed where it stands
+  -- an SA pair that is changed where it stands
   module _ (key : ℕ) (pair changed : Pair) (by_serial : IsIndexed keys slab) (at : key_of keys serial ≡ Some key) (there : get slab key ≡ Some pair) where
     abbrev where_it_stands : Located keys slab serial key pair
     where_it_stands = located keys slab serial key pair at there
@@ -392,7 +392,7 @@ module _ (keys : List (Option ℕ)) (slab : Slab Pair) (pairs : map.FinMap nat_c
     pub written_same : changed ≡ pair → shown_pairs keys (with_value slab key changed) ≡ pairs
     written_same same = written_shown ∙ inserted_same pairs serial changed (get_at_key key at ∙ there ∙ ap (λ (p : Pair). Some p) (sym same))
 
-  -- a pair that is taken out
+  -- an SA pair that is taken out
   module _ (new : Slab Pair) (key : ℕ) (pair : Pair) (by_serial : IsIndexed keys slab) (at : key_of keys serial ≡ Some key) (there : get slab key ≡ Some pair) (updates : Updates slab new key None) where
     abbrev where_it_stood : Located keys slab serial key pair
     where_it_stood = located keys slab serial key pair at there
@@ -410,7 +410,7 @@ module _ (keys : List (Option ℕ)) (slab : Slab Pair) (pairs : map.FinMap nat_c
         ∙ shown_removed keys slab new serial where_it_stood.index key pair by_serial where_it_stood.found updates
         ∙ ap (λ (m : map.FinMap nat_cmp Pair). map.remove m serial) shown
 
--- a pair that is added, in the view
+-- an SA pair that is added, in the view
 module _ (keys keys' : List (Option ℕ)) (old new : Slab Pair) (pairs : map.FinMap nat_cmp Pair) (serial key : ℕ) (pair : Pair) (by_serial : IsIndexed keys old) (shown : shown_pairs keys old ≡ pairs) (vacant : get old key ≡ None) (updates : Updates old new key (Some pair)) (longer : keys' ≡ keys ++ Some key ∷ []) (serial_is : serial ≡ length keys + 1) where
   pub added_fresh : map.get pairs serial ≡ None
   added_fresh =
@@ -433,7 +433,7 @@ module _ (keys keys' : List (Option ℕ)) (old new : Slab Pair) (pairs : map.Fin
 pub same_by_serial : (s t : PairsBySerial) → s.next ≡ t.next → s.pairs ≡ t.pairs → s.room ≡ t.room → s ≡ t
 same_by_serial s t next pairs room = λ i. record { next = next i; pairs = pairs i; room = room i }
 
--- what holds of each pair that a call may answer
+-- what holds of each SA pair that a call may answer
 pub each_copied : (P : Pair → Type 0) (o : Option (Bor Pair)) → ((pair : Pair) → option_copied o ≡ Some pair → P pair) → IfSome o (λ p. P p.now)
 each_copied P None each = tt
 each_copied P (Some p) each = each p.now refl
@@ -443,13 +443,13 @@ pub view_of_slab : (keys : List (Option ℕ)) (slab : Slab Pair) (pairs : map.Fi
 view_of_slab keys slab pairs by_serial shown key pair there =
     get_at_key keys slab pairs pair.serial shown key (by_serial.back key pair.serial (ap serial_of there)) ∙ there
 
--- some entry has this pair
+-- some entry has this SA pair
 pub record Waits (left : List (ℕ × Pair)) (pair : Pair) : Type 0 where
   pub key : ℕ
   pub there : Contains left (key, pair)
 
--- A walk over the entries of a slab: those that are left are the view's pairs, and each pair that is wanted
--- is left, or its serial was counted.
+-- A walk over the entries of a slab: those that are left are the view's SA pairs, and each pair that is
+-- wanted is left, or its serial was counted.
 pub record Walk (pairs : map.FinMap nat_cmp Pair) (left : List (ℕ × Pair)) (Wanted : Pair → Type 0) (Counted : ℕ → Type 0) : Type 0 where
   pub there : (key : ℕ) (pair : Pair) → Contains left (key, pair) → map.get pairs pair.serial ≡ Some pair
   pub met : (serial : ℕ) (pair : Pair) → map.get pairs serial ≡ Some pair → Wanted pair → Waits left pair ⊎ Counted serial
@@ -512,7 +512,7 @@ lower_is_one P (Some f) serial before now =
 abbrev OwnSerials : map.FinMap nat_cmp Pair → Type 0
 OwnSerials pairs = (serial : ℕ) (pair : Pair) → map.get pairs serial ≡ Some pair → pair.serial ≡ serial
 
--- at the end of a walk for the pairs above a serial
+-- at the end of a walk for the SA pairs above a serial
 module _ (pairs : map.FinMap nat_cmp Pair) (own : OwnSerials pairs) (serial : ℕ) (first : Option ℕ) (walk : Walk pairs [] (λ pair. serial < pair.serial) (NotBelow first)) where
   counted_after : (other : ℕ) (pair : Pair) → serial < other → map.get pairs other ≡ Some pair → NotBelow first other
   counted_after other pair above there =

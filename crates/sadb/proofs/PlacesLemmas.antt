@@ -29,7 +29,7 @@ reserved_shown start places i = passing_at start (reserved_in places) (length pl
 pub serial_shown : (start : ℕ) (places : List Place) (i : ℕ) → map.get (shown_serials start places) (start + i) ≡ serial_in places i
 serial_shown start places i = numbered_at start (serial_in places) (length places) (serials_end places) i
 
--- an SPI that is reserved, or a pair's, has a place
+-- an SPI that is reserved, or an SA pair's, has a place
 pub record HasPlace (start : ℕ) (places : List Place) (spi : ℕ) : Type 0 where
   pub from_start : start ≤ spi
   pub inside : spi - start < length places
@@ -76,7 +76,7 @@ serial_of_reserved Reserved is = refl
 serial_of_reserved (Held serial) is = cc
 serial_of_reserved Gone is = cc
 
--- a reserved SPI is no pair's
+-- a reserved SPI is no SA pair's
 pub reserved_is_free : (start : ℕ) (places : List Place) (spi : ℕ) → set.contains (shown_reserved start places) spi ≡ true → map.get (shown_serials start places) spi ≡ None
 reserved_is_free start places spi is =
     let both = reserved_at_place start places spi is in

@@ -160,7 +160,7 @@ released_in now x new s spi shown sound is_reserved new_is =
       };
     }
 
--- at one serial a map of pairs is what was put there, elsewhere it is as it was
+-- at one serial a map of SA pairs is what was put there, elsewhere it is as it was
 spi_here : (pairs : PairMap) (serial n : ℕ) (pair : Pair) → n ≡ serial → spi_of (map.get (map.insert pairs serial pair) n) ≡ Some pair.inbound.association.spi
 spi_here pairs serial n pair same = ap spi_of (inserted_here pairs serial n pair same)
 
@@ -179,7 +179,7 @@ removed_pairs : (pairs : PairMap) (serial : ℕ) (old : Pair) → map.get pairs 
 removed_pairs pairs serial old there =
     map.len-remove nat_cmp_total pairs serial ∙ ap (λ o. cond (is_some o) (map.len pairs - 1) (map.len pairs)) there
 
--- a pair comes to the SPI that was reserved for it
+-- an SA pair comes to the SPI that was reserved for it
 pub record InstalledIn (now : Database) (x : GivenSpis) (s : PairsBySerial) (spi : ℕ) (pair : Pair) (serial : ℕ) : Type 0 where
   pub sound : IsTable x s
   pub installs : Installs now spi pair serial (table_of x s)
@@ -187,7 +187,7 @@ pub record InstalledIn (now : Database) (x : GivenSpis) (s : PairsBySerial) (spi
 abbrev numbered_as : ℕ → Pair → Pair
 numbered_as serial pair = record pair { serial = serial }
 
--- there is room for the pair of a reserved SPI
+-- there is room for the SA pair of a reserved SPI
 pub has_room : (now : Database) (x : GivenSpis) (s : PairsBySerial) (spi : ℕ) → table_of x s ≡ now → IsTable x s → IsReserved now spi → 1 ≤ s.room
 has_room now x s spi shown sound is_reserved =
     let is : set.contains x.reserved spi ≡ true = ap (λ d. set.contains d.reserved spi) shown ∙ is_reserved in
@@ -273,12 +273,12 @@ installed_in now x new s more spi pair serial shown sound is_reserved its_own ne
       };
     }
 
--- a pair is taken out
+-- an SA pair is taken out
 pub record RemovedIn (now : Database) (x : GivenSpis) (s : PairsBySerial) (serial : ℕ) : Type 0 where
   pub sound : IsTable x s
   pub removes : Removes now serial (table_of x s)
 
--- the SPI of a pair that is there
+-- the SPI of an SA pair that is there
 pub spi_held : (x : GivenSpis) (s : PairsBySerial) (serial : ℕ) (pair : Pair) → IsTable x s → map.get s.pairs serial ≡ Some pair → map.get x.serials pair.inbound.association.spi ≡ Some serial
 spi_held x s serial pair sound there = sound.back serial pair.inbound.association.spi (ap spi_of there)
 
@@ -349,7 +349,7 @@ removed_in now x new s less serial pair shown sound there less_is less_room no_m
       };
     }
 
--- a pair that changed and kept its inbound SPI
+-- an SA pair that changed and kept its inbound SPI
 pub changed_in : (x : GivenSpis) (s new : PairsBySerial) (serial : ℕ) (old pair : Pair)
     → IsTable x s → map.get s.pairs serial ≡ Some old → pair.inbound.association.spi ≡ old.inbound.association.spi
     → new ≡ record s { pairs = new.pairs } → new.pairs ≡ map.insert s.pairs serial pair
@@ -377,7 +377,7 @@ changed_in x s new serial old pair sound there same_spi new_is new_pairs =
       back = λ n q held. sound.back n q (sym (same n) ∙ held);
     }
 
--- the SPI of a pair leads to its serial
+-- the SPI of an SA pair leads to its serial
 pub held_by : (x : GivenSpis) (s : PairsBySerial) (spi serial : ℕ) → IsTable x s → HasInbound s.pairs spi serial → map.get x.serials spi ≡ Some serial
 held_by x s spi serial sound held = sound.back serial spi (ap spi_of held.there ∙ ap Some held.its_own)
 
@@ -401,7 +401,7 @@ is_inbound now x s spi serial pair shown sound held there own =
       only = λ other is. same_some other serial (sym (held_by x s spi other sound is) ∙ held) ∙ sym own;
     })
 
--- a refused packet leaves the association as it was, but for bad padding
+-- a refused packet leaves the SA as it was, but for bad padding
 pub refused_unchanged : (old new : Receiving) (packet : List ℕ) (fault : EspFault) → fault ≢ BadPadding → Refuses ⊥ old packet fault new → new ≡ old
 refused_unchanged old new packet Exhausted not is = is.1
 refused_unchanged old new packet PayloadSize not is = is.1
@@ -490,7 +490,7 @@ all_sound now x s shown sound first start reserved held serial windows given =
       apart = λ n other spi one two. same_some n other (sym (held_by x s spi n sound one) ∙ held_by x s spi other sound two);
     })
 
--- ---- one pair changed, as the whole table shows it
+-- ---- one SA pair changed, as the whole table shows it
 
 pub changes_at : (now : Database) (x : GivenSpis) (s new : PairsBySerial) (serial : ℕ) (was is : Pair) → table_of x s ≡ now → map.get s.pairs serial ≡ Some was
     → new ≡ record s { pairs = new.pairs } → new.pairs ≡ map.insert s.pairs serial is → ChangesAt now serial was is (table_of x new)

@@ -1,4 +1,4 @@
--- The security association database (RFC 4301 section 4.4.2), as a finite map from serials to pairs.
+-- The security association database (RFC 4301 section 4.4.2), as a finite map from serials to SA pairs.
 use Rattle.std.specs.Prelude.{◌≡◌, ◌≢◌, ◌↔◌, ◌+◌, ◌^◌, ◌<◌, ◌≤◌, ℕ, List, true, Option, Some, None, IsSome, refl}
 use Rattle.std.specs.Ordering.{nat_cmp}
 use Rattle.std.specs.Coded.{Coded, code_by, coded×, coded_ℕ}
@@ -22,14 +22,14 @@ pub record Database : Type 0 where
   -- the first inbound SPI, and how many were given: the k-th one is start + k
   pub start : ℕ
   pub given : ℕ
-  -- the SPIs given whose pair is still to come
+  -- the SPIs given whose SA pair is still to come
   pub reserved : set.FinSet nat_cmp
-  -- the serial of the next pair
+  -- the serial of the next SA pair
   pub next : ℕ
-  -- the pairs by their serials
+  -- the SA pairs by their serials
   pub pairs : map.FinMap nat_cmp Pair
-  -- for how many more SPIs, with their pairs, there is room, so that reserving them takes no memory; no part
-  -- of the content
+  -- for how many more SPIs, with their SA pairs, there is room, so that reserving them takes no memory; no
+  -- part of the content
   pub room : ℕ
 
 abbrev pub database_code : Coded Database
@@ -47,14 +47,14 @@ pub record IsStart (start : ℕ) : Type 0 where
   pub least : 256 ≤ start
   pub most : start + 65536 ≤ 2 ^ 32
 
--- no pair, and no SPI given
+-- no SA pair, and no SPI given
 abbrev pub empty_table : ℕ → Database
 empty_table start = record { start = start; given = 0; reserved = set.empty; next = 1; pairs = map.empty; room = 0 }
 
 abbrev pub IsReserved : Database → ℕ → Type 0
 IsReserved d spi = set.contains d.reserved spi ≡ true
 
--- pairs and reserved SPIs together are as many as may be held, a limit of this implementation
+-- SA pairs and reserved SPIs together are as many as may be held, a limit of this implementation
 abbrev pub IsFull : Database → Type 0
 IsFull d = 1024 ≤ map.len d.pairs + set.len d.reserved
 
@@ -79,7 +79,7 @@ pub record IsAsBefore (old new : Database) : Type 0 where
   pub content : new ≡ record old { room = new.room }
   pub room : old.room ≤ new.room
 
--- the next SPI is given, and reserved until its pair comes; room falls by one at most
+-- the next SPI is given, and reserved until its SA pair comes; room falls by one at most
 pub record Reserves (old : Database) (spi : ℕ) (new : Database) : Type 0 where
   pub in_order : spi ≡ old.start + old.given
   pub content : new ≡ record old { given = old.given + 1; reserved = set.insert old.reserved spi; room = new.room }
@@ -92,7 +92,7 @@ pub record Releases (old : Database) (spi : ℕ) (new : Database) : Type 0 where
   pub room : old.room ≤ new.room
   pub no_more : new.room ≤ old.room + 1
 
--- the pair comes for which the SPI was reserved, under the next serial
+-- the SA pair comes for which the SPI was reserved, under the next serial
 pub record Installs (old : Database) (spi : ℕ) (pair : Pair) (serial : ℕ) (new : Database) : Type 0 where
   pub reserved : IsReserved old spi
   pub its_own : pair.inbound.association.spi ≡ spi
@@ -106,7 +106,7 @@ pub record Installs (old : Database) (spi : ℕ) (pair : Pair) (serial : ℕ) (n
   pub room : old.room ≤ new.room
   pub no_more : new.room ≤ old.room + 1
 
--- the pair is there no more
+-- the SA pair is there no more
 pub record Removes (old : Database) (serial : ℕ) (new : Database) : Type 0 where
   pub pair : Pair
   pub there : map.get old.pairs serial ≡ Some pair
@@ -114,54 +114,54 @@ pub record Removes (old : Database) (serial : ℕ) (new : Database) : Type 0 whe
   pub room : old.room ≤ new.room
   pub no_more : new.room ≤ old.room + 1
 
--- What is said of the pairs alone.
+-- What is said of the SA pairs alone.
 abbrev pub PairMap : Type 0
 PairMap = map.FinMap nat_cmp Pair
 
--- the pair with this serial, if there is one
+-- the SA pair with this serial, if there is one
 abbrev pub pair_at : PairMap → ℕ → Option Pair
 pair_at pairs serial = map.get pairs serial
 
 abbrev pub IsThere : PairMap → ℕ → Type 0
 IsThere pairs serial = IsSome (pair_at pairs serial)
 
--- a pair is Live, with this serial
+-- an SA pair is Live, with this serial
 pub record IsLive (pairs : PairMap) (serial : ℕ) : Type 0 where
   pub pair : Pair
   pub there : pair_at pairs serial ≡ Some pair
   pub live : pair.state ≡ Live
 
--- the pair with this serial has this inbound SPI, Live or Deleting
+-- the SA pair with this serial has this inbound SPI, Live or Deleting
 pub record HasInbound (pairs : PairMap) (spi serial : ℕ) : Type 0 where
   pub pair : Pair
   pub there : pair_at pairs serial ≡ Some pair
   pub its_own : pair.inbound.association.spi ≡ spi
 
--- the one pair with this inbound SPI
+-- the one SA pair with this inbound SPI
 pub record IsInbound (pairs : PairMap) (spi : ℕ) (pair : Pair) : Type 0 where
   pub there : pair_at pairs pair.serial ≡ Some pair
   pub its_own : pair.inbound.association.spi ≡ spi
   pub only : (serial : ℕ) → HasInbound pairs spi serial → serial ≡ pair.serial
 
--- the next pair by serial
+-- the next SA pair by serial
 pub record IsAfter (pairs : PairMap) (serial : ℕ) (pair : Pair) : Type 0 where
   pub there : pair_at pairs pair.serial ≡ Some pair
   pub above : serial < pair.serial
   pub least : (other : ℕ) → serial < other → other < pair.serial → pair_at pairs other ≡ None
 
--- the pair with this serial belongs to this IKE association
+-- the SA pair with this serial belongs to this IKE SA
 pub record BelongsTo (pairs : PairMap) (ike serial : ℕ) : Type 0 where
   pub pair : Pair
   pub there : pair_at pairs serial ≡ Some pair
   pub its : pair.ike ≡ ike
 
--- the next pair of an IKE association by serial
+-- the next SA pair of an IKE SA by serial
 pub record IsNextOf (pairs : PairMap) (ike serial next : ℕ) : Type 0 where
   pub belongs : BelongsTo pairs ike next
   pub above : serial < next
   pub least : (other : ℕ) → serial < other → other < next → ¬ BelongsTo pairs ike other
 
--- the pair with this serial belongs to this IKE association and sends under this SPI
+-- the SA pair with this serial belongs to this IKE SA and sends under this SPI
 pub record SendsUnder (pairs : PairMap) (ike spi serial : ℕ) : Type 0 where
   pub pair : Pair
   pub there : pair_at pairs serial ≡ Some pair
@@ -173,57 +173,57 @@ pub record IsSenderUnder (pairs : PairMap) (ike spi serial : ℕ) : Type 0 where
   pub sends : SendsUnder pairs ike spi serial
   pub least : (other : ℕ) → other < serial → ¬ SendsUnder pairs ike spi other
 
--- all pairs of an IKE association are there no more, and all others as they were
+-- all SA pairs of an IKE SA are there no more, and all others as they were
 pub record RemovesAllOf (old : Database) (ike : ℕ) (new : Database) : Type 0 where
   pub kept : (serial : ℕ) (pair : Pair) → (pair_at new.pairs serial ≡ Some pair) ↔ ((pair_at old.pairs serial ≡ Some pair) × (pair.ike ≢ ike))
   pub content : new ≡ record old { pairs = new.pairs; room = new.room }
   pub room : old.room ≤ new.room
 
--- the pair with this serial carries the flow outward: it is Live, its local selectors hold the source and its
--- remote ones the target (RFC 4301 section 5.1)
+-- the SA pair with this serial carries the flow outward: it is Live, its local selectors hold the source and
+-- its remote ones the target (RFC 4301 section 5.1)
 pub record Carries (pairs : PairMap) (flow : Flow) (serial : ℕ) : Type 0 where
   pub pair : Pair
   pub there : pair_at pairs serial ≡ Some pair
   pub live : pair.state ≡ Live
   pub covered : Covers pair.local pair.remote flow
 
--- of the pairs that carry the flow, the one of the greatest serial, a choice of this implementation
+-- of the SA pairs that carry the flow, the one of the greatest serial, a choice of this implementation
 pub record IsOutbound (pairs : PairMap) (flow : Flow) (serial : ℕ) : Type 0 where
   pub carries : Carries pairs flow serial
   pub greatest : (other : ℕ) → serial < other → ¬ Carries pairs flow other
 
--- a pair stands under this serial, and the packet begins with the SPI under which that receives, or is
+-- an SA pair stands under this serial, and the packet begins with the SPI under which that receives, or is
 -- shorter than one
 pub record IsForPair (pairs : PairMap) (serial : ℕ) (packet : List ℕ) : Type 0 where
   pub pair : Pair
   pub there : pair_at pairs serial ≡ Some pair
   pub addressed : BeginsWithItsSpi pair.inbound.association packet
 
--- One pair became another under the same serial, and nothing else of the table changed, its room neither.
+-- One SA pair became another under the same serial, and nothing else of the table changed, its room neither.
 pub record ChangesAt (old : Database) (serial : ℕ) (was is : Pair) (new : Database) : Type 0 where
   pub there : pair_at old.pairs serial ≡ Some was
   pub content : new ≡ record old { pairs = map.insert old.pairs serial is }
 
--- the pair with this serial is Deleting from then on
+-- the SA pair with this serial is Deleting from then on
 pub record Marks (old : Database) (serial : ℕ) (new : Database) : Type 0 where
   pub pair : Pair
   pub changed : ChangesAt old serial pair (record pair { state = Deleting }) new
 
--- the inbound association of the pair with this serial hands the packet up
+-- the inbound SA of the SA pair with this serial delivers the packet's payload
 pub record OpensAt (old : Database) (serial : ℕ) (packet : List ℕ) (number next : ℕ) (payload : List ℕ) (new : Database) : Type 0 where
   pub pair : Pair
   pub inbound : Receiving
   pub opened : HandsUp pair.inbound packet number next payload inbound
   pub changed : ChangesAt old serial pair (record pair { inbound = inbound }) new
 
--- it refuses the packet, never for want of memory
+-- it refuses the packet, never because of an allocation failure
 pub record RefusesAt (old : Database) (serial : ℕ) (packet : List ℕ) (fault : EspFault) (new : Database) : Type 0 where
   pub pair : Pair
   pub inbound : Receiving
   pub refused : Refuses ⊥ pair.inbound packet fault inbound
   pub changed : ChangesAt old serial pair (record pair { inbound = inbound }) new
 
--- the outbound association of the pair with this serial seals a packet
+-- the outbound SA of the SA pair with this serial seals a packet
 pub record SealsAt (old : Database) (serial next : ℕ) (payload before : List ℕ) (number : ℕ) (new : Database) (after : List ℕ) : Type 0 where
   pub pair : Pair
   pub outbound : Sending
@@ -250,12 +250,12 @@ pub record IsSoundTable (d : Database) : Type 0 where
   pub next : d.next + set.len d.reserved ≤ d.given + 1
   pub few : map.len d.pairs + set.len d.reserved ≤ 1024
   pub reserved_given : (spi : ℕ) → IsReserved d spi → WasGiven d spi
-  -- each pair stands under its own serial, which is one of those given
+  -- each SA pair stands under its own serial, which is one of those given
   pub serial : (serial : ℕ) (pair : Pair) → pair_at d.pairs serial ≡ Some pair → pair.serial ≡ serial
   pub serial_given : (serial : ℕ) (pair : Pair) → pair_at d.pairs serial ≡ Some pair → (1 ≤ serial) × (serial < d.next)
   -- its window is sound
   pub window : (serial : ℕ) (pair : Pair) → pair_at d.pairs serial ≡ Some pair → window.IsSoundWindow pair.inbound.window
-  -- its inbound SPI was given, is not reserved, and is no other pair's
+  -- its inbound SPI was given, is not reserved, and is no other SA pair's
   pub spi_given : (serial spi : ℕ) → HasInbound d.pairs spi serial → WasGiven d spi
   pub spi_taken : (serial spi : ℕ) → HasInbound d.pairs spi serial → ¬ IsReserved d spi
   pub apart : (serial other spi : ℕ) → HasInbound d.pairs spi serial → HasInbound d.pairs spi other → serial ≡ other

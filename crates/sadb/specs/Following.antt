@@ -6,13 +6,13 @@ use Rattle.sadb.specs.declared.pair.Pair.{Pair}
 use Rattle.sadb.specs.declared.pair.State.TheVariants.{Deleting}
 use Rattle.sadb.specs.Database.{Database, IsReserved, pair_at}
 
--- the window may have taken numbers since: no number that was not fresh is fresh again
+-- the window may have taken sequence numbers since: no number that was not fresh is fresh again
 pub record IsLaterWindow (was is : Seen) : Type 0 where
   pub size : is.size ≡ was.size
   pub spent : (n : ℕ) → judgement was n ≢ Fresh → judgement is n ≢ Fresh
 
--- The same pair, whatever was opened and sealed by it since: it never comes back to life, and no number comes
--- back.
+-- The same SA pair, whatever was opened and sealed by it since: it never comes back to life, and no sequence
+-- number comes back.
 pub record IsSamePair (was is : Pair) : Type 0 where
   pub serial : is.serial ≡ was.serial
   pub ike : is.ike ≡ was.ike
@@ -29,7 +29,7 @@ pub record WasSamePair (old : Database) (serial : ℕ) (is : Pair) : Type 0 wher
   pub there : pair_at old.pairs serial ≡ Some was
   pub same : IsSamePair was is
 
--- a pair may still come with this SPI: it was reserved then, or not given yet
+-- an SA pair may still come with this SPI: it was reserved then, or not given yet
 abbrev pub MayCome : Database → ℕ → Type 0
 MayCome old spi = IsReserved old spi ⊎ (old.start + old.given ≤ spi)
 
@@ -40,7 +40,7 @@ pub record Follows (old new : Database) : Type 0 where
   pub next : old.next ≤ new.next
   -- what is reserved was reserved then, or was not given yet
   pub reserved : (spi : ℕ) → IsReserved new spi → MayCome old spi
-  -- a pair under a serial that was given before is the one that was there
+  -- an SA pair under a serial that was given before is the one that was there
   pub old_pairs : (serial : ℕ) (pair : Pair) → pair_at new.pairs serial ≡ Some pair → serial < old.next → WasSamePair old serial pair
-  -- the SPI of each later pair was reserved then, or was not given yet; where old is sound, no pair had it
+  -- the SPI of each later SA pair was reserved then, or was not given yet; where old is sound, no pair had it
   pub new_pairs : (serial : ℕ) (pair : Pair) → pair_at new.pairs serial ≡ Some pair → old.next ≤ serial → MayCome old pair.inbound.association.spi

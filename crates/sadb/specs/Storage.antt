@@ -1,4 +1,4 @@
--- How a table keeps its content: what came of each SPI given, and the pairs in a slab with an index from
+-- How a table keeps its content: what came of each SPI given, and the SA pairs in a slab with an index from
 -- serials to keys. No public clause speaks of these.
 use Rattle.std.specs.Prelude.{◌≡◌, ◌⊎◌, ◌+◌, ◌≤◌, ℕ, zero, suc, Bool, true, false, List, Option, Some, None, length, slice_index_or, refl}
 use Rattle.std.specs.Ordering.{nat_cmp}
@@ -19,8 +19,8 @@ use Rattle.sadb.specs.Database.{Database, BelongsTo, IsStart, PairMap, Removes, 
 use Rattle.sadb.specs.Numbered.{numbered, passing}
 use Rattle.sadb.specs.Views.{pair_code}
 
--- The pairs: the serial of the next one, each under its serial, and for how many more there is room without
--- memory.
+-- The SA pairs: the serial of the next one, each under its serial, and for how many more there is room
+-- without memory.
 pub record PairsBySerial : Type 0 where
   pub next : ℕ
   pub pairs : map.FinMap nat_cmp Pair
@@ -30,7 +30,7 @@ abbrev pub by_serial_code : Coded PairsBySerial
 by_serial_code =
     code_by (ℕ × (map.FinMap nat_cmp Pair × ℕ)) (coded× coded_ℕ (coded× (map.code coded_ℕ pair_code) coded_ℕ)) (λ s. (s.next, (s.pairs, s.room))) (λ c. record { next = c.0; pairs = c.1.0; room = c.1.1 }) (λ _. refl)
 
--- the slab's key of the pair of the serial i + 1
+-- the slab's key of the SA pair of the serial i + 1
 abbrev pub slab_key_at : List (Option ℕ) → ℕ → Option ℕ
 slab_key_at keys i = slice_index_or keys i None
 
@@ -50,7 +50,7 @@ abbrev pub spi_of : Option Pair → Option ℕ
 spi_of None = None
 spi_of (Some pair) = Some pair.inbound.association.spi
 
--- the pairs of a slab by their serials
+-- the SA pairs of a slab by their serials
 abbrev pub shown_pairs : List (Option ℕ) → Slab Pair → map.FinMap nat_cmp Pair
 shown_pairs keys slab = numbered 1 (λ i. at_key slab (slab_key_at keys i)) (length keys)
 
@@ -61,8 +61,8 @@ pub record IsIndexed (keys : List (Option ℕ)) (slab : Slab Pair) : Type 0 wher
   pub counted : slab_len slab ≡ map.len (shown_pairs keys slab)
   pub windows : (key : ℕ) (pair : Pair) → get slab key ≡ Some pair → IsSoundWindow pair.inbound.window
 
--- The SPIs given: the first one, how many there are, those reserved, the serials of the pairs of others, and
--- how many more fit without memory.
+-- The SPIs given: the first one, how many there are, those reserved, the serials of the SA pairs of others,
+-- and how many more fit without memory.
 pub record GivenSpis : Type 0 where
   pub start : ℕ
   pub given : ℕ
@@ -104,27 +104,27 @@ pub record AreGiven (start : ℕ) (places : List Place) (reserved : ℕ) : Type 
   pub within : reserved ≤ length places
   pub counted : reserved ≡ set.len (shown_reserved start places)
 
--- what holds of the SPIs given and the pairs by serial that belong together
+-- what holds of the SPIs given and the SA pairs by serial that belong together
 pub record IsTable (x : GivenSpis) (s : PairsBySerial) : Type 0 where
   pub given : x.given ≤ 65536
-  -- there is room for the pair of each reserved SPI
+  -- there is room for the SA pair of each reserved SPI
   pub room : set.len x.reserved ≤ s.room
   pub few : map.len s.pairs + set.len x.reserved ≤ 1024
   -- a serial is given for an SPI that was given
   pub serials : s.next + set.len x.reserved ≤ x.given + 1
-  -- the serial of an SPI's pair, and the SPI of a serial's pair
+  -- the serial of an SPI's SA pair, and the SPI of a serial's pair
   pub there : (spi serial : ℕ) → map.get x.serials spi ≡ Some serial → spi_of (map.get s.pairs serial) ≡ Some spi
   pub back : (serial spi : ℕ) → spi_of (map.get s.pairs serial) ≡ Some spi → map.get x.serials spi ≡ Some serial
 
--- What a call does to one pair of the map, and to no other.
+-- What a call does to one SA pair of the map, and to no other.
 
--- the pair with this serial is Deleting from then on
+-- the SA pair with this serial is Deleting from then on
 pub record MarksPair (old : PairMap) (serial : ℕ) (new : PairMap) : Type 0 where
   pub pair : Pair
   pub there : pair_at old serial ≡ Some pair
   pub changed : new ≡ map.insert old serial (record pair { state = Deleting })
 
--- the inbound association of the pair with this serial hands the packet up, and no other pair is changed
+-- the inbound SA of the SA pair with this serial delivers the packet's payload, and no other pair is changed
 pub record OpensPair (old : PairMap) (serial : ℕ) (packet : List ℕ) (number next : ℕ) (payload : List ℕ) (new : PairMap) : Type 0 where
   pub pair : Pair
   pub there : pair_at old serial ≡ Some pair
@@ -132,7 +132,7 @@ pub record OpensPair (old : PairMap) (serial : ℕ) (packet : List ℕ) (number 
   pub opened : HandsUp pair.inbound packet number next payload inbound
   pub changed : new ≡ map.insert old serial (record pair { inbound = inbound })
 
--- it refuses the packet, never for want of memory, and no other pair is changed
+-- it refuses the packet, never because of an allocation failure, and no other SA pair is changed
 pub record RefusesPair (old : PairMap) (serial : ℕ) (packet : List ℕ) (fault : EspFault) (new : PairMap) : Type 0 where
   pub pair : Pair
   pub there : pair_at old serial ≡ Some pair
@@ -140,7 +140,7 @@ pub record RefusesPair (old : PairMap) (serial : ℕ) (packet : List ℕ) (fault
   pub refused : Refuses ⊥ pair.inbound packet fault inbound
   pub changed : new ≡ map.insert old serial (record pair { inbound = inbound })
 
--- the outbound association of the pair with this serial seals a packet, and no other pair is changed
+-- the outbound SA of the SA pair with this serial seals a packet, and no other pair is changed
 pub record SealsPair (old : PairMap) (serial next : ℕ) (payload before : List ℕ) (number : ℕ) (new : PairMap) (after : List ℕ) : Type 0 where
   pub pair : Pair
   pub there : pair_at old serial ≡ Some pair
@@ -148,7 +148,7 @@ pub record SealsPair (old : PairMap) (serial next : ℕ) (payload before : List 
   pub sealed : Seals pair.outbound next payload before number outbound after
   pub changed : new ≡ map.insert old serial (record pair { outbound = outbound })
 
--- a pair is removed, if it belongs to this IKE association
+-- an SA pair is removed, if it belongs to this IKE SA
 abbrev pub RemovesIfOf : Database → ℕ → ℕ → Database → Type 0
 RemovesIfOf old ike serial new =
     (BelongsTo old.pairs ike serial × Removes old serial new) ⊎ ((¬ BelongsTo old.pairs ike serial) × (new ≡ old))

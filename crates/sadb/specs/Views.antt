@@ -1,4 +1,4 @@
--- The codes of what contracts see of pairs of associations (RFC 4301 section 4.4.2), which are plain data.
+-- The codes of what contracts see of pairs of SAs (RFC 4301 section 4.4.2), which are plain data.
 use Rattle.std.specs.Prelude.{◌≡◌, ◌⊎◌, ℕ, List, Bool, true, false, refl}
 use Rattle.std.specs.Coded.{Coded, code_by, coded×, coded_ℕ, coded_bool, coded_list, coded⊎}
 use Rattle.std.proofs.Common.{inl, inr}

@@ -7,13 +7,13 @@ use thiserror::Error;
 /// Why no SPI is given.
 #[derive(Clone, Copy, Debug, PartialEq, Eq, Error)]
 pub enum TableFault {
-    /// Pairs and reserved SPIs together are 1024, a limit of this implementation.
+    /// SA pairs and reserved SPIs together are 1024, a limit of this implementation.
     #[error("E25: the table is full")]
     Full,
     /// All 65,536 SPIs were given, a limit of this implementation. None is ever given twice.
     #[error("E26: the inbound SPIs are spent")]
     Spent,
-    /// There was no memory for one more pair. Nothing was changed.
+    /// There was no memory for one more SA pair. Nothing was changed.
     #[error("E27: no memory")]
     Memory,
 }

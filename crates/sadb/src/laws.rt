@@ -1,5 +1,5 @@
 //! Facts about the definitions, each the contract of a function that does nothing: what becomes of a table
-//! over many calls, that answers are determined, and mirrored pairs.
+//! over many calls, that answers are determined, and mirrored SA pairs.
 ghost use Rattle.std.specs.Prelude.{◌≡◌, ◌≢◌, ℕ, List};
 ghost use Rattle.esp.specs.declared.fault.EspFault.{EspFault};
 ghost use Rattle.policy.specs.declared.flow.Flow.{Flow};
@@ -11,10 +11,10 @@ ghost use Rattle.sadb.specs.Mirrors.{Mirrors, reflection};
 ghost use Rattle.sadb.specs.declared.fault.TableFault.{TableFault};
 ghost use Rattle.sadb.specs.declared.pair.Pair.{Pair};
 
-/// Each call leads from a table to one that follows it: a pair keeps its serial, SPIs, keys and selectors as
-/// long as it is there, never comes back to life, and no number of its comes back; and no SPI that was given
-/// up, or that a pair had, is reserved again or becomes another pair's. Following is transitive, so this
-/// holds of any number of calls.
+/// Each call leads from a table to one that follows it: an SA pair keeps its serial, SPIs, keys and selectors
+/// as long as it is there, never comes back to life, and no sequence number of its comes back; and no SPI
+/// that was given up, or that a pair had, is reserved again or becomes another pair's. Following is
+/// transitive, so this holds of any number of calls.
 pub fn later_tables_follow()
     ensures transitive { (a b c : Database) → Follows a b → Follows b c → Follows a c }
     ensures preparing { (old new : Database) → IsSoundTable old → IsAsBefore old new → Follows old new }
@@ -40,8 +40,8 @@ pub fn later_tables_follow()
 {}
 
 /// Room that was made stays until an SPI is given for it: a table that is ready to give one without memory is
-/// so after a release, a removal, the end of a pair's traffic outward, an opening, whatever came of it, and a
-/// sealing.
+/// so after a release, a removal, the end of an SA pair's traffic outward, an opening, whatever came of it,
+/// and a sealing.
 pub fn room_stays()
     ensures releasing { (old new : Database) (spi : ℕ) → IsReady old → Releases old spi new → IsReady new }
     ensures removing { (old new : Database) (serial : ℕ) → IsReady old → Removes old serial new
@@ -62,7 +62,8 @@ pub fn no_spi_is_given_twice()
         → Reserves a first b → Follows b c → Reserves c second d → first ≢ second }
 {}
 
-/// An inbound SPI names one pair for ever: what has it later is the pair that had it, under the same serial.
+/// An inbound SPI names one SA pair for ever: what has it later is the pair that had it, under the same
+/// serial.
 pub fn an_spi_names_one_pair()
     ensures { (a c : Database) (spi serial later : ℕ) → IsSoundTable a → Follows a c
         → HasInbound a.pairs spi serial → HasInbound c.pairs spi later → later ≡ serial }
@@ -80,12 +81,12 @@ pub fn answers_are_determined()
     ensures refusal { (d : Database) (a b : TableFault) → IsTableRefusal d a → IsTableRefusal d b → a ≡ b }
 {}
 
-/// A pair that mirrors another is mirrored by it.
+/// An SA pair that mirrors another is mirrored by it.
 pub fn mirroring_is_symmetric()
     ensures { (a b : Pair) → Mirrors a b → Mirrors b a }
 {}
 
-/// A pair whose two associations have numbers of one length has a mirror: what the other end would hold.
+/// An SA pair whose two SAs have sequence numbers of one length has a mirror: what the other end would hold.
 pub fn mirrors_exist()
     ensures { (a : Pair) → a.inbound.association.extended ≡ a.outbound.association.extended
         → Mirrors a (reflection a) }

@@ -1,8 +1,8 @@
-//! The security association database of a gateway (RFC 4301 section 4.4.2): pairs of associations, found by
-//! inbound SPI, by serial and by flow.
+//! The security association database of a gateway (RFC 4301 section 4.4.2): pairs of SAs, found by inbound
+//! SPI, by serial and by flow.
 //!
-//! A [`Table`] gives inbound SPIs, holds the [`Pair`]s that come for them, and opens and seals packets by a
-//! pair. It holds up to 1024 pairs and reserved SPIs together, and gives up to 65,536 SPIs in its life,
+//! A [`Table`] gives inbound SPIs, holds the [`Pair`]s that come for them, and opens and seals packets by an
+//! SA pair. It holds up to 1024 pairs and reserved SPIs together, and gives up to 65,536 SPIs in its life,
 //! limits of this implementation; none is given twice. Making room for a pair may take memory, and so may
 //! sealing; nothing else does.
 //!

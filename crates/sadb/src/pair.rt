@@ -1,11 +1,11 @@
-//! Pairs of associations.
+//! Pairs of SAs.
 ghost use Rattle.std.specs.Prelude.{◌≡◌};
 
 use base::{Items, Selector};
 use esp::{Inbound, Outbound};
 use replay::BlockWindow;
 
-/// Whether a pair carries packets outward.
+/// Whether an SA pair carries packets outward.
 #[derive(Clone, Copy, Debug, PartialEq, Eq)]
 pub enum State {
     /// It carries packets both ways.
@@ -15,13 +15,13 @@ pub enum State {
     Deleting,
 }
 
-/// Two one-way associations that were made by one exchange, one for each direction (RFC 4301 section 4.1),
-/// and the traffic that they carry.
+/// Two one-way SAs that were made by one exchange, one for each direction (RFC 4301 section 4.1), and the
+/// traffic that they carry.
 #[derive(Drop)]
 pub struct Pair {
     /// The number that the table gave it, from 1 on; 0 before it has one.
     pub serial: u32,
-    /// The serial of the IKE association that made it.
+    /// The serial of the IKE SA that made it.
     pub ike: u32,
     /// Opens what the peer sends.
     pub inbound: Inbound<BlockWindow>,
@@ -36,7 +36,7 @@ pub struct Pair {
 }
 
 impl Pair {
-    /// A Live pair that has no serial yet.
+    /// A Live SA pair that has no serial yet.
     pub fn new(
         ike: u32,
         inbound: Inbound<BlockWindow>,

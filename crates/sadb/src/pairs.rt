@@ -1,4 +1,4 @@
-//! The pairs of a table, by their serials.
+//! The SA pairs of a table, by their serials.
 ghost use Rattle.std.specs.Vec.{vec_capacity};
 ghost use Rattle.esp.specs.declared.fault.EspFault.{EspFault};
 ghost use Rattle.esp.specs.Precomputed.{IsPrecomputed};
@@ -18,7 +18,7 @@ use slab::Slab;
 use std::alloc::{AllocError, Global};
 use std::marker::Model;
 
-// The pairs, in a slab, with the slab's key of each serial from 1 on.
+// The SA pairs, in a slab, with the slab's key of each serial from 1 on.
 #[derive(Drop)]
 pub(crate) struct Pairs {
     keys: Vec<Option<usize>>,
@@ -50,7 +50,7 @@ fn key(keys: &[Option<usize>], serial: u32) -> Option<usize>
     *keys.get((serial as usize).checked_sub(1)?)?
 }
 
-// Whether a pair carries a flow outward.
+// Whether an SA pair carries a flow outward.
 fn carries(pair: &Pair, flow: &Flow) -> bool
     ensures { IsTrue result ↔
         ((pair.now.state ≡ State.Live) × Covers pair.now.local pair.now.remote flow.now) }
@@ -69,7 +69,7 @@ impl Pairs {
         }
     }
 
-    /// What holds of all pairs. Does nothing.
+    /// What holds of all SA pairs. Does nothing.
     pub fn invariants_hold(&self)
         ensures first { 1 ≤ self.now.next }
         ensures serial { (serial : ℕ) (pair : held.Pair) → map.get self.now.pairs serial ≡ Some pair
@@ -103,7 +103,7 @@ impl Pairs {
         self.slab.reserve(more)
     }
 
-    /// Adds a pair, for which there is room, and answers the serial that it has from now on.
+    /// Adds an SA pair, for which there is room, and answers the serial that it has from now on.
     pub fn add(&mut self, mut pair: Pair) -> u32
         requires room { 1 ≤ self.old.room }
         requires fits { self.old.next < 2 ^ 32 }
@@ -119,14 +119,14 @@ impl Pairs {
     {
         let serial = self.keys.len() as u32 + 1;
         pair.serial = serial;
-        // The invariant wants each pair's window sound.
+        // The invariant wants each SA pair's window sound.
         pair.inbound.window_is_sound();
         let key = self.slab.insert_reserved(pair);
         self.keys.push_reserved(Some(key));
         serial
     }
 
-    /// Takes a pair out.
+    /// Takes an SA pair out.
     pub fn remove(&mut self, serial: u32) -> Pair
         requires { IsSome (map.get self.old.pairs serial) }
         ensures there { map.get self.old.pairs serial ≡ Some result }
@@ -140,7 +140,7 @@ impl Pairs {
         self.slab.remove(key)
     }
 
-    /// The pair with a serial.
+    /// The SA pair with a serial.
     pub fn get(&self, serial: u32) -> Option<&Pair>
         ensures value { option_copied result ≡ map.get self.now.pairs serial }
         ensures own_serial { IfSome result (λ p. p.now.serial ≡ serial) }
@@ -148,7 +148,7 @@ impl Pairs {
         self.slab.get(key(&self.keys, serial)?)
     }
 
-    /// Ends a pair's traffic outward.
+    /// Ends an SA pair's traffic outward.
     pub fn mark(&mut self, serial: u32)
         requires { IsSome (map.get self.old.pairs serial) }
         ensures marked { MarksPair self.old.pairs serial self.new.pairs }
@@ -158,7 +158,7 @@ impl Pairs {
         self.slab[key].state = State::Deleting;
     }
 
-    /// Opens a packet by a pair's inbound association, with its check value where that was computed before.
+    /// Opens a packet by an SA pair's inbound SA, with its ICV where that was computed before.
     pub fn open<'a>(
         &mut self,
         serial: u32,
@@ -176,12 +176,12 @@ impl Pairs {
         let key = key(&self.keys, serial).unwrap();
         let inbound = &mut self.slab[key].inbound;
         let opened = inbound.open_ahead(packet, ahead);
-        // The invariant wants each pair's window sound.
+        // The invariant wants each SA pair's window sound.
         inbound.window_is_sound();
         opened
     }
 
-    /// Seals a payload by a pair's outbound association.
+    /// Seals a payload by an SA pair's outbound SA.
     pub fn seal(
         &mut self,
         serial: u32,
@@ -203,7 +203,7 @@ impl Pairs {
         self.slab[key].outbound.seal(next, payload, out)
     }
 
-    /// The next pair by serial.
+    /// The next SA pair by serial.
     pub fn after(&self, serial: u32) -> Option<&Pair>
         ensures some { IfSome result (λ pair. IsAfter self.now.pairs serial pair.now) }
         ensures none { IfNone result ((other : ℕ) → serial < other → map.get self.now.pairs other ≡ None) }
@@ -217,7 +217,7 @@ impl Pairs {
         self.get(first?)
     }
 
-    /// The serial of the next pair.
+    /// The serial of the next SA pair.
     pub fn next(&self) -> u32
         requires { self.now.next < 2 ^ 32 }
         ensures { result ≡ self.now.next }
@@ -225,7 +225,7 @@ impl Pairs {
         self.keys.len() as u32 + 1
     }
 
-    /// Whether a serial is that of a pair of an IKE association.
+    /// Whether a serial is that of an SA pair of an IKE SA.
     pub fn belongs_to(&self, serial: u32, ike: u32) -> bool
         ensures { IsTrue result ↔ BelongsTo self.now.pairs ike serial }
     {
@@ -235,7 +235,7 @@ impl Pairs {
         }
     }
 
-    /// The serial of the next pair of an IKE association.
+    /// The serial of the next SA pair of an IKE SA.
     pub fn next_of(&self, ike: u32, serial: u32) -> Option<u32>
         requires { self.now.next < 2 ^ 32 }
         ensures some { IfSome result (IsNextOf self.now.pairs ike serial) }
@@ -250,8 +250,8 @@ impl Pairs {
         None
     }
 
-    /// Of the pairs that carry a flow outward, the one of the greatest serial: the first that is met from the
-    /// greatest serial down.
+    /// Of the SA pairs that carry a flow outward, the one of the greatest serial: the first that is met from
+    /// the greatest serial down.
     pub fn outbound(&self, flow: &Flow) -> Option<u32>
         requires { self.now.next < 2 ^ 32 }
         ensures some { IfSome result (IsOutbound self.now.pairs flow.now) }
@@ -266,7 +266,7 @@ impl Pairs {
         None
     }
 
-    // Whether the pair with a serial, if there is one, carries a flow outward.
+    // Whether the SA pair with a serial, if there is one, carries a flow outward.
     fn carries_by(&self, serial: u32, flow: &Flow) -> bool
         ensures { IsTrue result ↔ Carries self.now.pairs flow.now serial }
     {

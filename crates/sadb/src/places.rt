@@ -11,11 +11,11 @@ use std::marker::Model;
 // What came of an SPI.
 #[derive(Clone, Copy, Debug, PartialEq, Eq)]
 pub(crate) enum Place {
-    // Its pair is still to come.
+    // Its SA pair is still to come.
     Reserved,
-    // The pair with this serial has it.
+    // The SA pair with this serial has it.
     Held(u32),
-    // Its pair was removed, or never came.
+    // Its SA pair was removed, or never came.
     Gone,
 }
 
@@ -134,7 +134,7 @@ impl Places {
         self.reserved -= 1;
     }
 
-    /// Notes the serial of the pair for which an SPI was reserved.
+    /// Notes the serial of the SA pair for which an SPI was reserved.
     pub fn hold(&mut self, spi: u32, serial: u32)
         requires { set.contains self.old.reserved spi ≡ true }
         ensures content { self.new ≡ record self.old {
@@ -148,7 +148,7 @@ impl Places {
         self.reserved -= 1;
     }
 
-    /// Gives up the SPI of a pair; none comes with it again.
+    /// Gives up the SPI of an SA pair; none comes with it again.
     pub fn retire(&mut self, spi: u32)
         requires { IsSome (map.get self.old.serials spi) }
         ensures { self.new ≡ record self.old { serials = map.remove self.old.serials spi } }
@@ -157,7 +157,7 @@ impl Places {
         self.places[held] = Place::Gone;
     }
 
-    /// The serial of the pair that has an SPI.
+    /// The serial of the SA pair that has an SPI.
     pub fn serial(&self, spi: u32) -> Option<u32>
         ensures { result ≡ map.get self.now.serials spi }
     {

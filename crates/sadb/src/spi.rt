@@ -27,9 +27,9 @@ pub fn first_spi(start: u32) -> Result<u32, SpiFault>
     Ok(start)
 }
 
-/// An inbound security parameters index that a table gave (RFC 4301 section 4.1), for one pair. It is given
-/// back to [`Table::install`](crate::Table::install) or [`Table::release`](crate::Table::release); one that
-/// is dropped stays reserved.
+/// An inbound security parameters index that a table gave (RFC 4301 section 4.1), for one SA pair. It is
+/// given back to [`Table::install`](crate::Table::install) or [`Table::release`](crate::Table::release); one
+/// that is dropped stays reserved.
 #[derive(Drop)]
 pub struct Spi {
     number: u32,

@@ -1,4 +1,4 @@
-//! The association table.
+//! The SA table.
 ghost use Rattle.std.specs.Prelude.{◌≡◌, ◌≢◌, ◌+◌, ◌<◌, ◌≤◌, ℕ, List, Some, None, OnOk, IfOk, IfErr, IfSome, IfNone, IsOk, length, vec_len};
 ghost use Rattle.sadb.specs.Database.{IsStart, empty_table, IsFull, IsSpent, IsTableRefusal, IsAsBefore, Reserves, IsReserved, Releases, Installs};
 ghost use Rattle.sadb.specs.Database.{pair_at, IsThere, Removes, IsLive, Marks, HasInbound, IsInbound, IsSoundTable, IsAfter, Carries, IsOutbound};
@@ -17,13 +17,13 @@ use policy::Flow;
 use std::alloc::Global;
 use std::marker::Model;
 
-// The most pairs and reserved SPIs together, a limit of this implementation.
+// The most SA pairs and reserved SPIs together, a limit of this implementation.
 const HELD_LIMIT: usize = 1024;
 
 // The most SPIs that are ever given, a limit of this implementation.
 const GIVEN_LIMIT: usize = 65_536;
 
-/// The security association database of one end (RFC 4301 section 4.4.2): pairs by their serials, and the
+/// The security association database of one end (RFC 4301 section 4.4.2): SA pairs by their serials, and the
 /// inbound SPIs that were given for them. No SPI is given twice.
 ///
 /// A pair comes in two steps, so that nothing is lost where memory runs out: [`reserve`](Table::reserve)
@@ -80,7 +80,7 @@ impl Table {
         self.pairs.invariants_hold();
     }
 
-    /// Makes room for one more pair, and tells the SPI that the next [`reserve`](Table::reserve) gives.
+    /// Makes room for one more SA pair, and tells the SPI that the next [`reserve`](Table::reserve) gives.
     /// Nothing else is changed. Where there is room already, as right after another `prepare`, it takes no
     /// memory.
     ///
@@ -109,8 +109,8 @@ impl Table {
         Ok(self.places.next())
     }
 
-    /// Gives the next inbound SPI and makes room for its pair. Right after a [`prepare`](Table::prepare) that
-    /// answered Ok it takes no memory and is not refused.
+    /// Gives the next inbound SPI and makes room for its SA pair. Right after a [`prepare`](Table::prepare)
+    /// that answered Ok it takes no memory and is not refused.
     ///
     /// Refused as [`prepare`](Table::prepare) is, with nothing changed.
     pub fn reserve(&mut self) -> Result<Spi, TableFault>
@@ -134,7 +134,7 @@ impl Table {
         self.places.release(spi.number());
     }
 
-    /// Adds the pair for which an SPI was reserved, and answers the serial that it has from now on. The
+    /// Adds the SA pair for which an SPI was reserved, and answers the serial that it has from now on. The
     /// caller asks only for an SPI that is reserved, with a pair of that inbound SPI. Takes no memory: room
     /// was made with the SPI.
     pub fn install(&mut self, spi: Spi, pair: Pair) -> u32
@@ -147,8 +147,8 @@ impl Table {
         serial
     }
 
-    /// Takes a pair out for good; its inbound SPI is not given again. The caller asks only for one that is
-    /// there. Takes no memory.
+    /// Takes an SA pair out for good; its inbound SPI is not given again. The caller asks only for one that
+    /// is there. Takes no memory.
     pub fn remove(&mut self, serial: u32)
         requires { IsThere self.old.pairs serial }
         ensures { Removes self.old serial self.new }
@@ -157,8 +157,8 @@ impl Table {
         self.places.retire(pair.inbound.spi());
     }
 
-    /// The pair with an inbound SPI, Live or Deleting. Takes no memory, and costs the same however many pairs
-    /// there are.
+    /// The SA pair with an inbound SPI, Live or Deleting. Takes no memory, and costs the same however many
+    /// pairs there are.
     pub fn inbound(&self, spi: u32) -> Option<&Pair>
         ensures some { IfSome result (λ pair. IsInbound self.now.pairs spi pair.now) }
         ensures none { IfNone result ((serial : ℕ) → ¬ HasInbound self.now.pairs spi serial) }
@@ -166,7 +166,7 @@ impl Table {
         self.pairs.get(self.places.serial(spi)?)
     }
 
-    /// Ends a Live pair's traffic outward: it is Deleting from now on, so [`outbound`](Table::outbound)
+    /// Ends a Live SA pair's traffic outward: it is Deleting from now on, so [`outbound`](Table::outbound)
     /// passes it over. The caller asks only for one that is Live. Takes no memory.
     pub fn mark(&mut self, serial: u32)
         requires { IsLive self.old.pairs serial }
@@ -175,9 +175,9 @@ impl Table {
         self.pairs.mark(serial);
     }
 
-    /// The serial of the pair that carries a flow outward: of the Live pairs whose local selectors hold its
-    /// source and whose remote ones hold its target, the one that was made last. The walk goes from the last
-    /// serial given down, and ends at the first pair that fits. Takes no memory.
+    /// The serial of the SA pair that carries a flow outward: of the Live pairs whose local selectors hold
+    /// its source and whose remote ones hold its target, the one that was made last. The walk goes from the
+    /// last serial given down, and ends at the first pair that fits. Takes no memory.
     pub fn outbound(&self, flow: &Flow) -> Option<u32>
         ensures some { IfSome result (IsOutbound self.now.pairs flow.now) }
         ensures none { IfNone result ((serial : ℕ) → ¬ Carries self.now.pairs flow.now serial) }
@@ -185,14 +185,14 @@ impl Table {
         self.pairs.outbound(flow)
     }
 
-    /// The pair with this serial. Takes no memory.
+    /// The SA pair with this serial. Takes no memory.
     pub fn get(&self, serial: u32) -> Option<&Pair>
         ensures { option_copied result ≡ pair_at self.now.pairs serial }
     {
         self.pairs.get(serial)
     }
 
-    /// The next pair by serial; from 0 on, one after the other, all are found. Takes no memory.
+    /// The next SA pair by serial; from 0 on, one after the other, all are found. Takes no memory.
     pub fn after(&self, serial: u32) -> Option<&Pair>
         ensures some { IfSome result (λ pair. IsAfter self.now.pairs serial pair.now) }
         ensures none { IfNone result ((other : ℕ) → serial < other → pair_at self.now.pairs other ≡ None) }
@@ -200,9 +200,8 @@ impl Table {
         self.pairs.after(serial)
     }
 
-    /// The serial of the next pair of an IKE association, Live or Deleting: the least above the given one.
-    /// From 0 on, one after the other, all are found, in one walk over the serials given so far. Takes no
-    /// memory.
+    /// The serial of the next SA pair of an IKE SA, Live or Deleting: the least above the given one. From 0
+    /// on, one after the other, all are found, in one walk over the serials given so far. Takes no memory.
     pub fn next_of(&self, ike: u32, serial: u32) -> Option<u32>
         ensures some { IfSome result (IsNextOf self.now.pairs ike serial) }
         ensures none { IfNone result ((other : ℕ) → serial < other → ¬ BelongsTo self.now.pairs ike other) }
@@ -210,8 +209,8 @@ impl Table {
         self.pairs.next_of(ike, serial)
     }
 
-    /// Takes all pairs of an IKE association out for good, in one walk over the serials given so far. Takes
-    /// no memory.
+    /// Takes all SA pairs of an IKE SA out for good, in one walk over the serials given so far. Takes no
+    /// memory.
     pub fn remove_all_of(&mut self, ike: u32)
         ensures { RemovesAllOf self.old ike self.new }
     {
@@ -221,7 +220,7 @@ impl Table {
         }
     }
 
-    // Takes a pair out, if it is there and belongs to an IKE association.
+    // Takes an SA pair out, if it is there and belongs to an IKE SA.
     fn remove_if_of(&mut self, serial: u32, ike: u32)
         ensures { RemovesIfOf self.old ike serial self.new }
     {
@@ -230,8 +229,8 @@ impl Table {
         }
     }
 
-    /// Opens a packet by the inbound association of a pair, as [`esp::Inbound::open`] does, with its refusals
-    /// but for want of memory, which never comes. The caller asks only for a pair that is there, with a
+    /// Opens a packet by the inbound SA of an SA pair, as [`esp::Inbound::open`] does, with its refusals but
+    /// for an allocation failure, which never comes. The caller asks only for a pair that is there, with a
     /// packet that begins with its inbound SPI or is shorter than one. Takes no memory.
     pub fn open<'a>(&mut self, serial: u32, packet: &'a [u8]) -> Result<Opened<'a>, EspFault>
         requires { IsForPair self.old.pairs serial packet.now }
@@ -243,8 +242,8 @@ impl Table {
         self.open_ahead(serial, packet, None)
     }
 
-    /// Opens a packet as [`open`](Table::open) does, with its check value where that was computed before: it
-    /// is used where it was computed with the pair's key and for the number that the packet has now
+    /// Opens a packet as [`open`](Table::open) does, with its ICV where that was computed before: it is used
+    /// where it was computed with the SA pair's key and for the sequence number that the packet has now
     /// ([`esp::Inbound::open_ahead`]).
     pub fn open_ahead<'a>(
         &mut self,
@@ -262,7 +261,7 @@ impl Table {
         self.pairs.open(serial, packet, ahead)
     }
 
-    /// Seals a payload by the outbound association of a pair, as [`esp::Outbound::seal`] does: the packet is
+    /// Seals a payload by the outbound SA of an SA pair, as [`esp::Outbound::seal`] does: the packet is
     /// appended to `out`, which may take memory. Refused, with nothing changed, in this order:
     /// [`EspFault::Exhausted`], [`EspFault::PayloadSize`], [`EspFault::Memory`]. The caller asks only for a
     /// pair that is there, Live or Deleting.

@@ -44,6 +44,6 @@ pub record Setup : Type 0 where
 abbrev pub setup_of : {C : Type 0} → Surroundings C → Setup
 setup_of given = record { config = given.config.now; entries = given.policy.now; fresh = given.fresh.now; moment = given.moment }
 
--- what the first child of an association is made on
+-- what the first Child SA of an IKE SA is made on
 abbrev pub first_setting : Config → ℕ → KeyRecord → Setting
 first_setting config ike keys = record { ike = ike; keys = first_child_keys keys; blocks = config.blocks }

@@ -136,7 +136,7 @@ impl Config {
         self.extended
     }
 
-    /// The blocks of the replay windows of its children, a count that [`replay::is_block_count`] allows.
+    /// The blocks of the replay windows of its Child SAs, a count that [`replay::is_block_count`] allows.
     pub fn blocks(&self) -> u32
         ensures count { result ≡ self.now.blocks }
         ensures allowed { IsBlockCount result }

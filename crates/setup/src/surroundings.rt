@@ -4,7 +4,7 @@ use crate::Config;
 use policy::Policy;
 use suite::Fresh;
 
-/// What a step has to hand, beside the associations that it may change.
+/// What a step has to hand, beside the IKE SAs that it may change.
 #[derive(Drop)]
 pub struct Setup<'a, C> {
     /// The caller's cipher, key agreement and proofs.
@@ -13,6 +13,6 @@ pub struct Setup<'a, C> {
     pub policy: &'a Policy,
     /// Random words of this step alone, from the caller.
     pub fresh: &'a Fresh,
-    /// The moment of the step, in milliseconds.
+    /// The time of the step, in milliseconds.
     pub moment: u64,
 }

@@ -32,8 +32,8 @@ spi_i_of datagram = from_be_bytes w64 (take 8 datagram)
 abbrev pub spi_r_of : List ℕ → ℕ
 spi_r_of datagram = from_be_bytes w64 (take 8 (drop 8 datagram))
 
--- a gateway of this name holds an association with these SPIs: the responder's is zero until it is known
--- (section 3.1), and doesn't count then
+-- a gateway of this name holds an IKE SA with these SPIs: the responder's is zero until it is known (section
+-- 3.1), and doesn't count then
 abbrev pub has_association : ℕ → ℕ → ℕ → List Held → Bool
 has_association spi_i spi_r key held =
     list_any (λ one. (one.key == key) && (one.spi_i == spi_i) && ((spi_r == 0) || (one.spi_r == spi_r))) held
@@ -42,7 +42,7 @@ has_association spi_i spi_r key held =
 abbrev pub has_peer : List ℕ → Site → Bool
 has_peer address site = pointwise nat_eq site.peer address
 
--- the gateway's peer has this address, and it holds an association with these SPIs
+-- the gateway's peer has this address, and it holds an IKE SA with these SPIs
 abbrev pub is_holder : List ℕ → ℕ → ℕ → List Held → Site → Bool
 is_holder address spi_i spi_r held site = has_peer address site && has_association spi_i spi_r site.key held
 
@@ -50,7 +50,7 @@ is_holder address spi_i spi_r held site = has_peer address site && has_associati
 abbrev pub holder_of : List ℕ → ℕ → ℕ → List Held → List Site → Option Site
 holder_of address spi_i spi_r held sites = find (is_holder address spi_i spi_r held) sites
 
--- the first gateway of this address that holds the association that a message is of
+-- the first gateway of this address that holds the IKE SA that a message is of
 abbrev pub holder : List ℕ → List ℕ → List Held → List Site → Option Site
 holder address datagram held sites =
     if nat_lt (length datagram) 16 then None
@@ -60,7 +60,7 @@ holder address datagram held sites =
 abbrev pub newest : List ℕ → List Site → Option Site
 newest address sites = find (has_peer address) (reverse sites)
 
--- that which holds the association, else the newest
+-- that which holds the IKE SA, else the newest
 abbrev pub site_of_ike : List ℕ → List ℕ → List Held → List Site → Option Site
 site_of_ike address datagram held sites = option_or (holder address datagram held sites) (newest address sites)
 

@@ -1,6 +1,6 @@
-//! Associations that gateways hold.
+//! IKE SAs that gateways hold.
 
-/// An IKE association that a gateway holds, by its SPIs (RFC 7296 section 3.1).
+/// An IKE SA that a gateway holds, by its SPIs (RFC 7296 section 3.1).
 #[derive(Clone, Copy, Debug, PartialEq, Eq)]
 pub struct Held {
     /// The caller's own name of the gateway.

@@ -104,11 +104,11 @@ impl Sites {
         Some(site.key)
     }
 
-    /// The key of the gateway that an IKE message from an IPv4 address is for, with the associations that
-    /// the gateways hold. It is the first of those of that peer that holds an association with the SPIs
-    /// in the message's first 16 octets (RFC 7296 section 3.1). Where the responder's SPI is zero, the
-    /// initiator's alone counts. Where none does, and for fewer octets, it is the newest gateway of that
-    /// peer. None where no gateway has that peer.
+    /// The key of the gateway that an IKE message from an IPv4 address is for, with the IKE SAs that the
+    /// gateways hold. It is the first of those of that peer that holds an IKE SA with the SPIs in the
+    /// message's first 16 octets (RFC 7296 section 3.1). Where the responder's SPI is zero, the initiator's
+    /// alone counts. Where none does, and for fewer octets, it is the newest gateway of that peer. None where
+    /// no gateway has that peer.
     pub fn of_ike(&self, from: [u8; 4], datagram: &[u8], held: &[Held]) -> Option<u32>
         ensures { result ≡ key_of (site_of_ike from datagram.now held.now self.now) }
     {
@@ -157,7 +157,7 @@ fn takes(spi: u32, site: &Site) -> bool
     spi >= site.start && spi - site.start < SPI_COUNT
 }
 
-// The first gateway of a peer that holds the association that a message is of.
+// The first gateway of a peer that holds the IKE SA that a message is of.
 fn holder<'a>(from: &[u8; 4], datagram: &[u8], held: &[Held], sites: &'a [Site]) -> Option<&'a Site>
     ensures { option_copied result ≡ holder from.now datagram.now held.now sites.now }
 {
@@ -169,7 +169,7 @@ fn holder<'a>(from: &[u8; 4], datagram: &[u8], held: &[Held], sites: &'a [Site])
     holder_of(from, spi_i, spi_r, held, sites)
 }
 
-// The first gateway of a peer that holds an association with these SPIs.
+// The first gateway of a peer that holds an IKE SA with these SPIs.
 fn holder_of<'a>(
     from: &[u8; 4],
     spi_i: u64,
@@ -184,7 +184,7 @@ fn holder_of<'a>(
         .find(|site| is_holder(from, spi_i, spi_r, held, site))
 }
 
-// Whether a gateway of a peer holds an association with these SPIs.
+// Whether a gateway of a peer holds an IKE SA with these SPIs.
 fn is_holder(from: &[u8; 4], spi_i: u64, spi_r: u64, held: &[Held], site: &Site) -> bool
     ensures { result ≡ is_holder from.now spi_i spi_r held.now site.now }
 {
@@ -199,8 +199,7 @@ fn responder_spi(datagram: &[u8]) -> u64
     BigEndian::read_u64(&datagram[8..])
 }
 
-// Whether a gateway holds an association with these SPIs, of which the responder's doesn't count where it
-// is zero.
+// Whether a gateway holds an IKE SA with these SPIs, of which the responder's doesn't count where it is zero.
 fn holds(spi_i: u64, spi_r: u64, held: &[Held], key: u32) -> bool
     ensures { result ≡ has_association spi_i spi_r key held.now }
 {

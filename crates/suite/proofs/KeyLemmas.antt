@@ -1,4 +1,4 @@
--- The keys of an association are keys: the material has 224 octets, and each key 32 of them.
+-- The keys of an IKE SA are keys: the material has 224 octets, and each key 32 of them.
 use Rattle.std.proofs.Common.{◌≡◌, ℕ, zero, suc, ◌≤◌, ◌+◌, ◌*◌, List, [], ◌∷◌, length, take, drop, arith}
 use Rattle.std.proofs.lemmas.List.{length-drop, length-take-le}
 use Rattle.base.specs.Octets.{AreOctets}

@@ -91,7 +91,7 @@ offer_acceptable (Ike encr key_length group) spi form = subst (λ (x : List ℕ)
 offer_acceptable (Esp false) spi form = esp_acceptable false false spi 1 form (λ e. cc)
 offer_acceptable (Esp true) spi form = both_acceptable true spi form
 
--- for a child, also where one end alone allows extended sequence numbers
+-- for a Child SA, also where one end alone allows extended sequence numbers
 pub child_offer_acceptable : (ours theirs : Bool) (spi : List ℕ) → HasSpi (Esp ours) spi → IsAcceptableProposal (Esp theirs) (offer_of (Esp ours) spi)
 child_offer_acceptable false theirs spi form = esp_acceptable theirs false spi 1 form (λ e. cc)
 child_offer_acceptable true theirs spi form = both_acceptable theirs spi form

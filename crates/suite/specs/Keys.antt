@@ -1,5 +1,5 @@
--- The keys of an IKE association and of its children (RFC 7296, sections 2.14 and 2.17), with HMAC-SHA-256
--- as the pseudorandom function. Every key has 32 octets, that of the cipher too, which is a rule of this
+-- The keys of an IKE SA and of its Child SAs (RFC 7296, sections 2.14 and 2.17), with HMAC-SHA-256 as the
+-- pseudorandom function. Every key has 32 octets, that of the cipher too, which is a rule of this
 -- implementation.
 use Rattle.std.specs.Prelude.{ℕ, ◌*◌, List, [], ◌∷◌, ◌++◌, take, drop}
 use Rattle.byteorder.specs.Endian.{big_bytes}
@@ -48,7 +48,7 @@ child_material sk_d ni nr = prf_plus sk_d (ni ++ nr) 64
 abbrev pub child_keys : List ℕ → List ℕ → List ℕ → List (List ℕ)
 child_keys sk_d ni nr = key_at 0 (child_material sk_d ni nr) ∷ key_at 1 (child_material sk_d ni nr) ∷ []
 
--- section 2.17: the first child is made with the association, whose nonces are those of its keys
+-- section 2.17: the first Child SA is made with the IKE SA, whose nonces are those of its keys
 abbrev pub first_child_keys : KeyRecord → List (List ℕ)
 first_child_keys r = child_keys r.sk_d r.nonce_i r.nonce_r
 

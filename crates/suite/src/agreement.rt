@@ -26,12 +26,12 @@ pub trait Agreement {
     fn group(&self) -> u16
         ensures { result ≡ group_number };
 
-    /// The public value of a secret, which a KE payload carries. An error is for want of memory alone.
+    /// The public value of a secret, which a KE payload carries. The only error is an allocation failure.
     fn public(&self, alloc: Global, secret: &[u8; 32]) -> Result<Items<u8>, AllocError>
         ensures { IfOk result (λ value. value ≡ public_value secret.now) };
 
-    /// The secret that is shared with the owner of a public value, `None` where the agreement refuses
-    /// that value. An error is for want of memory alone.
+    /// The secret that is shared with the owner of a public value, `None` where the agreement refuses that
+    /// value. The only error is an allocation failure.
     fn shared(
         &self,
         alloc: Global,

@@ -12,14 +12,14 @@ use wire::{Attribute, Proposal, Transform};
 /// What a proposal is to be for.
 #[derive(Clone, Copy, Debug, PartialEq, Eq)]
 pub enum Wanted {
-    /// An IKE association with the caller's cipher, its key length in bits where there is to be one, and
-    /// the caller's group. The other transforms are PRF_HMAC_SHA2_256 and AUTH_HMAC_SHA2_256_128.
+    /// An IKE SA with the caller's cipher, its key length in bits where there is to be one, and the caller's
+    /// group. The other transforms are PRF_HMAC_SHA2_256 and AUTH_HMAC_SHA2_256_128.
     Ike {
         encr: u16,
         key_length: Option<u16>,
         group: u16,
     },
-    /// A child with ENCR_NULL and AUTH_HMAC_SHA2_256_128, with extended sequence numbers or without; with
+    /// A Child SA with ENCR_NULL and AUTH_HMAC_SHA2_256_128, with extended sequence numbers or without; with
     /// them only where `extended` allows it.
     Esp {
         extended: bool,
@@ -44,7 +44,7 @@ const ESP_KINDS: [u8; 3] = [ENCR, INTEG, ESN];
 ghost use Rattle.suite.specs.Choice.{acceptable_transforms, key_length_attribute, kinds, wanted_protocol, without_attributes, ChoosesNumbers, HasSpi, IsAcceptableProposal, IsAcceptableTransform, IsChosenProposal, IsFirstAcceptable};
 
 impl Wanted {
-    /// What an IKE association is to have by a caller's traits: its cipher and its group.
+    /// What an IKE SA is to have by a caller's traits: its cipher and its group.
     pub fn ike<C: Sealer + Agreement>(caller: &C) -> Wanted
         ensures { result ≡ Wanted.Ike C.cipher.id C.cipher.key_length C.group_number }
     {

@@ -4,7 +4,7 @@ use std::fmt;
 /// Random numbers of the caller for one step. No other step is to have them; nothing here checks it.
 #[derive(Clone, Copy)]
 pub struct Fresh {
-    /// The SPI of an IKE association that the step may make; 0 names none (RFC 7296, section 3.1).
+    /// The SPI of an IKE SA that the step may make; 0 names none (RFC 7296, section 3.1).
     pub spi: u64,
     /// The nonce of an exchange, 32 octets (section 2.10).
     pub nonce: [u8; 32],

@@ -1,4 +1,4 @@
-//! The keys of an IKE association and of its children (RFC 7296, sections 2.14 and 2.17).
+//! The keys of an IKE SA and of its Child SAs (RFC 7296, sections 2.14 and 2.17).
 ghost use Rattle.std.specs.Prelude.{◌≡◌, ◌≤◌, ◌+◌, ◌*◌, length};
 ghost use Rattle.suite.specs.Nonces.{IsNonce};
 
@@ -12,7 +12,7 @@ const KEY: usize = 32;
 // The octets of the longest two nonces.
 const NONCES: usize = 512;
 
-/// An IKE association's SPIs, its nonces and the seven keys made of them (RFC 7296, section 2.14).
+/// An IKE SA's SPIs, its nonces and the seven keys made of them (RFC 7296, section 2.14).
 ///
 /// It follows from the shared secret, both nonces and both SPIs ([`ike_keys`]).
 #[derive(Clone, PartialEq, Eq, Drop)]
@@ -25,7 +25,7 @@ pub struct KeyRecord {
     pub nonce_i: Nonce,
     /// The responder's nonce.
     pub nonce_r: Nonce,
-    /// The key from which those of children are made.
+    /// The key from which those of Child SAs are made.
     pub sk_d: [u8; 32],
     /// The integrity key of what the original initiator sends.
     pub sk_ai: [u8; 32],
@@ -64,9 +64,9 @@ impl KeyRecord {
         }
     }
 
-    /// The keys of the child that is made with the association, whose nonces are the association's own (RFC
-    /// 7296, section 2.17): the integrity key of what the original initiator sends, then that of what the
-    /// responder sends.
+    /// The keys of the Child SA that is made with the IKE SA, whose nonces are the IKE SA's own (RFC 7296,
+    /// section 2.17): the integrity key of what the original initiator sends, then that of what the responder
+    /// sends.
     pub fn first_child_keys(&self) -> [[u8; 32]; 2]
         ensures { result ≡ first_child_keys self.now }
     {
@@ -87,8 +87,8 @@ impl fmt::Debug for KeyRecord {
 
 ghost use Rattle.suite.specs.Keys.{child_keys, child_material, ike_keys, ike_material, key_at, seed_key};
 
-/// The record of an association, from the shared secret of the agreement, both nonces of 16 to 256 octets
-/// and both SPIs (RFC 7296, section 2.14). Takes no memory.
+/// The record of an IKE SA, from the shared secret of the agreement, both nonces of 16 to 256 octets and both
+/// SPIs (RFC 7296, section 2.14). Takes no memory.
 pub fn ike_keys(shared: &[u8], ni: &[u8], nr: &[u8], spi_i: u64, spi_r: u64) -> KeyRecord
     requires nonce_i { IsNonce ni.now }
     requires nonce_r { IsNonce nr.now }
@@ -110,9 +110,9 @@ pub fn ike_keys(shared: &[u8], ni: &[u8], nr: &[u8], spi_i: u64, spi_r: u64) -> 
     }
 }
 
-/// The two keys of a child, from its association's SK_d and the nonces of the exchange that makes it (RFC
-/// 7296, section 2.17): the integrity key of what that exchange's initiator sends, then that of what its
-/// responder sends. Takes no memory.
+/// The two keys of a Child SA, from its IKE SA's SK_d and the nonces of the exchange that makes it (RFC 7296,
+/// section 2.17): the integrity key of what that exchange's initiator sends, then that of what its responder
+/// sends. Takes no memory.
 pub fn child_keys(sk_d: &[u8; 32], ni: &[u8], nr: &[u8]) -> [[u8; 32]; 2]
     ensures { result ≡ child_keys sk_d.now ni.now nr.now }
 {

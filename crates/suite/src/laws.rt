@@ -11,8 +11,8 @@ ghost use Rattle.suite.specs.declared.choice.Wanted.TheVariants.{Esp};
 
 use mac::laws::key_material_is_octets;
 
-/// The keys under which both ends of an association seal (RFC 7296, section 2.14) have 32 octets each, as
-/// the laws of a [`Sealer`](crate::Sealer) ask for.
+/// The keys under which both ends of an IKE SA seal (RFC 7296, section 2.14) have 32 octets each, as the laws
+/// of a [`Sealer`](crate::Sealer) ask for.
 pub fn derived_keys_are_keys()
     ensures initiator { (shared ni nr : List ℕ) (spi_i spi_r : ℕ)
         → AreKeys (initiator_keys (ike_keys shared ni nr spi_i spi_r)) }
@@ -43,7 +43,7 @@ pub fn offers_are_answered()
         → ChoosesNumbers wanted (answer_of wanted chosen spi).transforms chosen.extended }
 {}
 
-/// What one end offers for a child is acceptable to the other, also where only one of them allows extended
+/// What one end offers for a Child SA is acceptable to the other, also where only one of them allows extended
 /// sequence numbers. What an end chooses of an offer is answered by what the one who offered takes for that
 /// choice, whatever the chooser allows.
 pub fn ends_agree()

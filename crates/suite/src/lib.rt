@@ -1,11 +1,11 @@
 //! What IKE asks of its caller and of the keyed hash (RFC 7296): keys, the choice of a proposal, the octets
 //! that an end proves, and the traits that a caller gives.
 //!
-//! [`ike_keys`] derives the seven keys of an association, [`child_keys`] those of a child; [`offer`] makes
-//! the one proposal that an end offers, [`choose`] takes the first acceptable one of an offer, [`answer`]
-//! makes the proposal that answers it, and [`accept`] tells whether that is due to the offer;
-//! [`proof_octets`] appends what an end proves of itself. Of these [`offer`], [`answer`] and
-//! [`proof_octets`] take memory. The numbers of transforms stand in [`transforms`].
+//! [`ike_keys`] derives the seven keys of an IKE SA, [`child_keys`] those of a Child SA; [`offer`] makes the
+//! one proposal that an end offers, [`choose`] takes the first acceptable one of an offer, [`answer`] makes
+//! the proposal that answers it, and [`accept`] tells whether that is due to the offer; [`proof_octets`]
+//! appends what an end proves of itself. Of these [`offer`], [`answer`] and [`proof_octets`] take memory. The
+//! numbers of transforms stand in [`transforms`].
 //!
 //! Ciphers, key agreement and signatures are the caller's: a [`Sealer`], an [`Agreement`] and a [`Proof`].
 //! What they mean stands in ghost members of the traits, so that what opens as what is a fact about octets,

@@ -19,8 +19,8 @@ use wire::{Attribute, Items, Proposal, Transform};
 const OFFERED: u8 = 1;
 
 /// The one proposal that an end offers (RFC 7296, section 3.3), with its SPI: none for IKE, that of its
-/// inbound association for a child. Where extended sequence numbers are wanted, they are offered before
-/// those of 32 bits. An error is for want of memory alone.
+/// inbound SA for a Child SA. Where extended sequence numbers are wanted, they are offered before those of 32
+/// bits. The only error is an allocation failure.
 pub fn offer(alloc: Global, wanted: &Wanted, spi: &[u8]) -> Result<Proposal, AllocError>
     ensures { IfOk result (λ proposal. proposal ≡ offer_of wanted.now spi.now) }
 {
@@ -34,8 +34,8 @@ pub fn offer(alloc: Global, wanted: &Wanted, spi: &[u8]) -> Result<Proposal, All
     proposal(alloc, OFFERED, wanted, spi, transforms)
 }
 
-/// The proposal that answers a chosen one (RFC 7296, sections 2.7 and 3.3.1), with its number, this end's
-/// SPI and one transform of each type. An error is for want of memory alone.
+/// The proposal that answers a chosen one (RFC 7296, sections 2.7 and 3.3.1), with its number, this end's SPI
+/// and one transform of each type. The only error is an allocation failure.
 pub fn answer(
     alloc: Global,
     wanted: &Wanted,

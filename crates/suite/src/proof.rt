@@ -29,13 +29,13 @@ pub trait Proof {
     fn method(&self) -> u8
         ensures { result ≡ own_method self.now };
 
-    /// What this end proves octets with, which its AUTH payload carries. An error is for want of memory
-    /// alone.
+    /// What this end proves octets with, which its AUTH payload carries. The only error is an allocation
+    /// failure.
     fn prove(&self, alloc: Global, octets: &[u8]) -> Result<Items<u8>, AllocError>
         ensures { IfOk result (λ proved. proved ≡ proof_of self.now octets.now) };
 
     /// Whether the peer whose identity has this type and this data has proved the octets by the method that
-    /// its AUTH payload names and the data in it, `proof`. An error is for want of memory alone.
+    /// its AUTH payload names and the data in it, `proof`. The only error is an allocation failure.
     fn check(
         &self,
         alloc: Global,

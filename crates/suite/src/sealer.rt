@@ -49,8 +49,8 @@ pub trait Sealer {
         requires { plain + 128 < 2 ^ 64 }
         ensures { result ≡ sealed_size plain };
 
-    /// Appends the body that a plain text becomes. An error is for want of memory alone, and leaves `out`
-    /// as it was.
+    /// Appends the body that a plain text becomes. The only error is an allocation failure, which leaves
+    /// `out` as it was.
     fn seal(
         &self,
         keys: &Keys,
@@ -63,8 +63,8 @@ pub trait Sealer {
             (out.new.items ≡ out.old.items ++ body_of keys.now head.now plain.now fresh.now) }
         ensures refused { OnErr result (out.new.items ≡ out.old.items) };
 
-    /// Appends the plain text that a body opens to, and answers whether it opens. `false` and an error,
-    /// which is for want of memory alone, leave `out` as it was.
+    /// Appends the plain text that a body opens to, and answers whether it opens. `false` and an error, which
+    /// is an allocation failure alone, leave `out` as it was.
     fn open(
         &self,
         keys: &Keys,

@@ -6,10 +6,10 @@ use wire::numbers::{
     PRF_TRANSFORM, SEQUENCE_NUMBERS_TRANSFORM,
 };
 
-/// Protocol: an IKE association (section 3.3.1).
+/// Protocol: an IKE SA (section 3.3.1).
 pub const IKE: u8 = IKE_PROTOCOL;
 
-/// Protocol: an ESP association.
+/// Protocol: an ESP SA.
 pub const ESP: u8 = ESP_PROTOCOL;
 
 /// The least SPI of ESP: those up to 255 are reserved (RFC 4303, section 2.1).

@@ -1,4 +1,4 @@
--- What the calls for one ESP association by itself do.
+-- What the calls for one ESP SA by itself do.
 use Rattle.std.specs.Prelude.{◌≡◌, ◌⊎◌, ℕ, ◌+◌, ◌<◌, ◌≤◌, Option, None, Some, List, [], ◌++◌, length, take, drop}
 use Rattle.esp.specs.Faults.{code_of_esp_fault}
 use Rattle.esp.specs.Opening.{HandsUp, Refuses}
@@ -46,7 +46,7 @@ pub record SealsIntoRoom (old : Sending) (next : ℕ) (payload room : List ℕ) 
   pub written : filled ≡ packet ++ drop (length packet) room
 
 -- why no packet was sealed: the room is too short for some packet with the payload, or else as the
--- association says
+-- SA says
 abbrev pub IsSealingRefusalAt : Sending → List ℕ → List ℕ → refused.Refusal → Type 0
 IsSealingRefusalAt old payload room (refusal.ShortRoom) = length room < length payload + 29
 IsSealingRefusalAt old payload room (refusal.Esp fault) = (length payload + 29 ≤ length room) × IsSealRefusal old payload fault
@@ -71,7 +71,7 @@ pub record OpensAt (old : Receiving) (packet : List ℕ) (new : Receiving) (told
   pub within : told.offset + told.length ≤ length packet
   pub hands_up : HandsUp old packet told.number told.next (take told.length (drop told.offset packet)) new
 
--- why it was not opened: it is for another association, or as the association says
+-- why it was not opened: it is for another SA, or as the SA says
 abbrev pub IsOpeningRefusalAt : Receiving → List ℕ → refused.Refusal → Receiving → Type 0
 IsOpeningRefusalAt old packet (refusal.OtherSpi) new = (¬ BeginsWithItsSpi old.association packet) × (new ≡ old)
 IsOpeningRefusalAt old packet (refusal.Esp fault) new = BeginsWithItsSpi old.association packet × Refuses ⊥ old packet fault new

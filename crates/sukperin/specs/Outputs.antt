@@ -16,11 +16,11 @@ abbrev pub serial_of : Option ℕ → ℕ
 serial_of None = 0
 serial_of (Some serial) = serial
 
--- the association under whose keys a message was sent
+-- the IKE SA under whose keys a message was sent
 abbrev pub ike_in : Trace → ℕ
 ike_in trace = elim trace.sent [ None ↦ 0 | Some mark ↦ mark.ike ]
 
--- the child that was made
+-- the Child SA that was made
 abbrev pub child_in : Trace → ℕ
 child_in trace = elim trace.child [ None ↦ 0 | Some child ↦ child.serial ]
 

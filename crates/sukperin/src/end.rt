@@ -7,9 +7,9 @@ use replay::BlockWindow;
 /// What a handle leads to.
 #[derive(Drop)]
 pub enum End {
-    /// The sender's end of one ESP association by itself.
+    /// The sender's end of one ESP SA by itself.
     Sender(Outbound),
-    /// The receiver's end of one ESP association by itself.
+    /// The receiver's end of one ESP SA by itself.
     Receiver(Inbound<BlockWindow>),
     /// A gateway.
     Gateway(Hosted),

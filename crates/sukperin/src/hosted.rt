@@ -17,12 +17,12 @@ use std::alloc::Global;
 pub enum Left {
     /// Nothing.
     Nothing,
-    /// A message of IKE, and the association that asks by it, 0 of an answer.
+    /// A message of IKE, and the IKE SA that asks by it, 0 of an answer.
     Message {
         ike: u32,
         octets: Items<u8>,
     },
-    /// What a moment brought: the requests that go out again, and the associations that were closed.
+    /// What a tick brought: the requests that go out again, and the IKE SAs that were closed.
     Ticked {
         requests: Items<Resent>,
         closed: Items<u32>,
@@ -36,7 +36,7 @@ pub struct Hosted {
     pub gateway: Gateway<PeerCaller>,
     /// What the last input left to be taken.
     pub left: Left,
-    /// Whether it tells the keys of its IKE associations.
+    /// Whether it tells the keys of its IKE SAs.
     pub tells_keys: bool,
 }
 
@@ -56,7 +56,7 @@ impl Left {
         }
     }
 
-    // The message of IKE at a place, with the association that asks by it.
+    // The message of IKE at a place, with the IKE SA that asks by it.
     pub fn message(&self, place: u64) -> Option<(u32, &[u8])> {
         match self {
             Left::Message { ike, octets } => {
@@ -74,7 +74,7 @@ impl Left {
         }
     }
 
-    // The closed association at a place.
+    // The closed IKE SA at a place.
     pub fn closing(&self, place: u64) -> Option<u32> {
         match self {
             Left::Ticked { closed, .. } => closed.as_slice().get(place as usize).copied(),

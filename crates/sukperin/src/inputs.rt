@@ -14,7 +14,7 @@ use std::alloc::Global;
 #[repr(C)]
 #[derive(Clone, Copy)]
 pub struct SukFresh {
-    /// The SPI of an IKE association that the step may make; 0 names none.
+    /// The SPI of an IKE SA that the step may make; 0 names none.
     pub spi: u64,
     /// The nonce of an exchange.
     pub nonce: [u8; 32],
@@ -66,8 +66,8 @@ pub extern "C" fn suk_ike(
     )
 }
 
-/// The order to ask the peer for a child by an entry of the policy, counted from 0: with a new IKE
-/// association where `ike` is 0, else a further child of the one with this serial.
+/// The command to ask the peer for a Child SA by an entry of the policy, counted from 0: with a new IKE SA
+/// where `ike` is 0, else an additional Child SA of the one with this serial.
 #[unsafe(no_mangle)]
 pub extern "C" fn suk_start(
     alloc: Global,
@@ -92,7 +92,7 @@ pub extern "C" fn suk_start(
     )
 }
 
-/// The order to ask the peer whether it is there, under the IKE association with this serial.
+/// The command to ask the peer whether it is there, under the IKE SA with this serial.
 #[unsafe(no_mangle)]
 pub extern "C" fn suk_probe(
     alloc: Global,
@@ -107,7 +107,7 @@ pub extern "C" fn suk_probe(
     give(alloc, handle, &Input::Probe { ike, fresh: &fresh }, out)
 }
 
-/// The order to delete the child with this serial.
+/// The command to delete the Child SA with this serial.
 #[unsafe(no_mangle)]
 pub extern "C" fn suk_delete_child(
     alloc: Global,
@@ -130,7 +130,7 @@ pub extern "C" fn suk_delete_child(
     )
 }
 
-/// The order to delete the IKE association with this serial, with all its children.
+/// The command to delete the IKE SA with this serial, with all its Child SAs.
 #[unsafe(no_mangle)]
 pub extern "C" fn suk_delete_ike(
     alloc: Global,
@@ -145,7 +145,7 @@ pub extern "C" fn suk_delete_ike(
     give(alloc, handle, &Input::DeleteIke { ike, fresh: &fresh }, out)
 }
 
-/// The order to make cookies under another secret.
+/// The command to make cookies under another secret.
 #[unsafe(no_mangle)]
 pub extern "C" fn suk_secret(
     alloc: Global,
@@ -158,7 +158,7 @@ pub extern "C" fn suk_secret(
     give(alloc, handle, &Input::Secret { secret }, out)
 }
 
-/// The time, in milliseconds from any beginning. An earlier moment than before counts as the one before.
+/// The time, in milliseconds from any beginning. An earlier time than before counts as the one before.
 #[unsafe(no_mangle)]
 pub extern "C" fn suk_tick(
     alloc: Global,

@@ -1,4 +1,4 @@
-//! The core as a library for C: a gateway, or one ESP association by itself under a given key.
+//! The core as a library for C: a gateway, or one ESP SA by itself under a given key.
 //!
 //! A handle of 16 octets lies in the caller's storage. All zeros is none. `suk_new`, `suk_sender` and
 //! `suk_receiver` make it lead to an end; `suk_end` and `suk_end_association` free that, and the handle is

@@ -55,7 +55,7 @@ pub extern "C" fn suk_end(alloc: Global, handle: &mut SukHandle)
     drop(handle.take(alloc));
 }
 
-// The gateway of these terms, with no association.
+// The gateway of these terms, with no IKE SA.
 fn hosted(
     alloc: Global,
     terms: &SukTerms,

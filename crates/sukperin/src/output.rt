@@ -14,25 +14,25 @@ pub struct SukOutput {
     pub kind: u32,
     /// Why it was dropped or refused: an E number.
     pub code: u32,
-    /// The IKE association that a request or what was counted is of; of a reply and a repeat, that under
+    /// The IKE SA that a request or what was counted is of; of a reply and a repeat, that under
     /// whose keys it was sent.
     pub ike: u32,
-    /// The child that a packet is of, or that was made.
+    /// The Child SA that a packet is of, or that was made.
     pub child: u32,
-    /// The IKE association that was closed.
+    /// The IKE SA that was closed.
     pub closed: u32,
-    /// The IKE association whose keys were made.
+    /// The IKE SA whose keys were made.
     pub keyed: u32,
     /// How many messages of IKE are left to be taken.
     pub messages: u64,
-    /// How many IKE associations a moment closed.
+    /// How many IKE SAs a tick closed.
     pub closings: u64,
     /// The sequence number of an ESP packet.
     pub number: u64,
-    /// Where octets begin: of what goes up, in the packet that came.
+    /// Where octets begin: of what is delivered, in the packet that came.
     pub offset: u64,
-    /// How many octets there are: of what goes up, of what was sealed, of what goes on as it is, or of one
-    /// message of IKE.
+    /// How many octets there are: of what is delivered, of what was sealed, of what goes on as it is, or of
+    /// one message of IKE.
     pub length: u64,
 }
 
@@ -152,7 +152,7 @@ fn serial_of(serial: Option<u32>) -> u32
     }
 }
 
-// The association under whose keys a message was sent.
+// The IKE SA under whose keys a message was sent.
 fn ike_in(trace: &Trace) -> u32
     ensures { result ≡ ike_in trace.now }
 {
@@ -162,14 +162,14 @@ fn ike_in(trace: &Trace) -> u32
     }
 }
 
-// The association whose keys were made.
+// The IKE SA whose keys were made.
 fn keyed_in(trace: &Trace) -> u32
     ensures { result ≡ serial_of trace.now.keyed }
 {
     serial_of(trace.keyed)
 }
 
-// The child that was made.
+// The Child SA that was made.
 fn child_in(trace: &Trace) -> u32
     ensures { result ≡ child_in trace.now }
 {

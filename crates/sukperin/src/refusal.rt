@@ -12,7 +12,7 @@ pub enum Refusal {
     Esp(EspFault),
     /// 20: there was no memory.
     Memory,
-    /// 28: the packet begins with another SPI than the association's.
+    /// 28: the packet begins with another SPI than the SA's.
     OtherSpi,
     /// 101: the handle leads to none, or to an end of another kind.
     NoEnd,

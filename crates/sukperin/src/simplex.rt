@@ -1,4 +1,4 @@
-//! One ESP association by itself: a sender or a receiver under a given key.
+//! One ESP SA by itself: a sender or a receiver under a given key.
 ghost use Rattle.std.specs.Prelude.{◌≡◌, ◌≢◌, ◌≤◌, None, Some, length, take, OnOk, IfErr, IsTrue, ◌↔◌};
 ghost use Rattle.byteorder.specs.Endian.{big_bytes};
 ghost use Rattle.sukperin.specs.Associations.{OpensAt, OpensTo, SealsInto, SealsIntoRoom};

@@ -24,7 +24,7 @@ pub struct SukTerms {
     pub extended: u8,
     /// How many requests it takes at once, 1 to 16.
     pub window: u8,
-    /// The blocks of its children's replay windows, 2, 4, 8 .. or 128.
+    /// The blocks of its Child SAs' replay windows, 2, 4, 8 .. or 128.
     pub blocks: u32,
     /// The first inbound SPI for ESP, from 256 to 2^32 - 65,536.
     pub first_spi: u32,
@@ -34,7 +34,7 @@ pub struct SukTerms {
     pub peer_address: [u8; 4],
     /// The first secret of its cookies.
     pub cookie_secret: [u8; 32],
-    /// Whether it tells the keys of its IKE associations: where it is not 0.
+    /// Whether it tells the keys of its IKE SAs: where it is not 0.
     pub tells_keys: u8,
     /// 0.
     pub reserved: [u8; 3],

@@ -19,19 +19,19 @@ use std::alloc::Global;
 pub struct SukMessage {
     /// Its octets.
     pub length: u64,
-    /// The association that asks by it, 0 of an answer.
+    /// The IKE SA that asks by it, 0 of an answer.
     pub ike: u32,
     /// 0.
     pub reserved: u32,
 }
 
-/// A child.
+/// A Child SA.
 #[repr(C)]
 #[derive(Clone, Copy)]
 pub struct SukChild {
     /// Its number at this end, from 1 on.
     pub serial: u32,
-    /// The serial of the IKE association that made it.
+    /// The serial of the IKE SA that made it.
     pub ike: u32,
     /// The SPI of what comes.
     pub spi_in: u32,
@@ -55,7 +55,7 @@ pub struct SukChild {
     pub taken: u64,
 }
 
-/// A selector of a child. An address of IPv4 is the first four octets of sixteen.
+/// A selector of a Child SA. An address of IPv4 is the first four octets of sixteen.
 #[repr(C)]
 #[derive(Clone, Copy)]
 pub struct SukSelector {
@@ -73,7 +73,7 @@ pub struct SukSelector {
     pub end: [u8; 16],
 }
 
-/// An IKE association.
+/// An IKE SA.
 #[repr(C)]
 #[derive(Clone, Copy)]
 pub struct SukAssociation {
@@ -81,7 +81,7 @@ pub struct SukAssociation {
     pub spi_i: u64,
     /// The responder's SPI, 0 while it is not known.
     pub spi_r: u64,
-    /// The moment, in milliseconds, at which it was made, of one half open, or closed; else 0.
+    /// The time, in milliseconds, at which it was made, of one half open, or closed; else 0.
     pub moment: u64,
     /// Its number at this end, from 1 on.
     pub serial: u32,
@@ -95,7 +95,7 @@ pub struct SukAssociation {
     pub window: u8,
 }
 
-/// The least moment at which [`suk_tick`](crate::inputs::suk_tick) does anything. 108 where no moment does.
+/// The least time at which [`suk_tick`](crate::inputs::suk_tick) does anything. 108 where no time does.
 #[unsafe(no_mangle)]
 pub extern "C" fn suk_next(alloc: Global, handle: &mut SukHandle, moment: &mut u64) -> u32
     ensures { handle.new.held.state ≡ handle.old.held.state }
@@ -128,7 +128,7 @@ pub extern "C" fn suk_message(
     code
 }
 
-/// The serial of the IKE association at a place, counted from 0, of those that the last moment closed. 108
+/// The serial of the IKE SA at a place, counted from 0, of those that the last tick closed. 108
 /// where there is none.
 #[unsafe(no_mangle)]
 pub extern "C" fn suk_closing(
@@ -147,7 +147,7 @@ pub extern "C" fn suk_closing(
     code
 }
 
-/// The child of the least serial above this one; from 0 on, one after the other, all are found. 108 where
+/// The Child SA of the least serial above this one; from 0 on, one after the other, all are found. 108 where
 /// there is none.
 #[unsafe(no_mangle)]
 pub extern "C" fn suk_child_after(
@@ -166,7 +166,7 @@ pub extern "C" fn suk_child_after(
     code
 }
 
-/// The selector at a place, counted from 0, of the child with this serial: of the peer's side where
+/// The selector at a place, counted from 0, of the Child SA with this serial: of the peer's side where
 /// `remote` is not 0, else of this end's. 108 where there is none.
 #[unsafe(no_mangle)]
 pub extern "C" fn suk_selector(
@@ -187,7 +187,7 @@ pub extern "C" fn suk_selector(
     code
 }
 
-/// The IKE associations, by rising serial, and how many there are. 103, with their number told and the room
+/// The IKE SAs, by rising serial, and how many there are. 103, with their number told and the room
 /// as it was, where it is shorter.
 #[unsafe(no_mangle)]
 pub extern "C" fn suk_associations(
@@ -292,7 +292,7 @@ fn associations(end: &End, room: &mut [SukAssociation], count: &mut u64) -> Resu
     Ok(())
 }
 
-// A child, as it is told.
+// A Child SA, as it is told.
 fn child_of(pair: &Pair) -> SukChild {
     SukChild {
         serial: pair.serial,
@@ -333,7 +333,7 @@ fn selector_of(selector: &Selector) -> SukSelector {
     }
 }
 
-// How far an association has come, and the moment that goes with it.
+// How far an IKE SA has come, and the time that goes with it.
 fn phase_of(phase: &Phase) -> (u8, u64) {
     match phase {
         Phase::InitSent(_) => (1, 0),
@@ -344,7 +344,7 @@ fn phase_of(phase: &Phase) -> (u8, u64) {
     }
 }
 
-// An association, as it is told.
+// An IKE SA, as it is told.
 fn association_of(association: &Association) -> SukAssociation {
     let (phase, moment) = phase_of(&association.phase);
     SukAssociation {

@@ -1,4 +1,4 @@
-//! Two gateways that hold an association and its first child, A's by its own order.
+//! Two gateways that hold an IKE SA and its first child, A's by its own order.
 use crate::{OwnedInput, SampleFault, config, message, order, policy};
 use caller_script::ScriptCaller;
 use gateway::{End, Gateway, Output};

@@ -4,7 +4,7 @@ use base::Items;
 use std::alloc::{AllocError, Global};
 use suite::Fresh;
 
-/// The order to begin an association, with fresh octets of this SPI.
+/// The order to begin an IKE SA, with fresh octets of this SPI.
 pub fn order(spi: u64) -> OwnedInput {
     OwnedInput::Start {
         ike: None,
@@ -13,7 +13,7 @@ pub fn order(spi: u64) -> OwnedInput {
     }
 }
 
-/// The order for a further child of an association.
+/// The order for an additional Child SA of an IKE SA.
 pub fn further(ike: u32) -> OwnedInput {
     OwnedInput::Start {
         ike: Some(ike),
@@ -41,7 +41,7 @@ pub fn fresh(spi: u64) -> Fresh {
     }
 }
 
-/// The order to ask whether the peer of an association is there.
+/// The order to ask whether the peer of an IKE SA is there.
 pub fn probe(ike: u32) -> OwnedInput {
     OwnedInput::Probe {
         ike,

@@ -1,7 +1,8 @@
 //! What tests of whole gateways are made of: two gateways with the caller of scripts, and what comes to them.
 //!
-//! `ends` has their configurations and policies, `inputs` what comes to them, `owned` lists of it, `both` two of them that hold an association and its first
-//! child. The crates `test_gateways`, `test_long_runs` and `tool_memory` share it; nothing of the core stands on it.
+//! `ends` has their configurations and policies, `inputs` what comes to them, `owned` lists of it, `both` two
+//! of them that hold an IKE SA and its first child. The crates `test_gateways`, `test_long_runs` and
+//! `tool_memory` share it; nothing of the core stands on it.
 #![tactic(auto)]
 
 mod both;

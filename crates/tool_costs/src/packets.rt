@@ -1,4 +1,4 @@
-//! Hashing, and packets of one association.
+//! Hashing, and packets of one SA.
 ghost use Rattle.std.specs.Prelude.{◌≡◌, IsTrue, take};
 ghost use Rattle.byteorder.specs.Endian.{big_bytes};
 
@@ -9,7 +9,7 @@ use std::alloc::Global;
 
 const SPI: u32 = 256;
 
-/// The keys of all associations here.
+/// The keys of all SAs here.
 pub const KEY: [u8; 32] = [0x0b; 32];
 
 /// The next header of an IPv4 packet.
@@ -59,7 +59,7 @@ pub fn open(alloc: Global, count: u32, octets: u16) -> Option<u8> {
     Some(next)
 }
 
-// The first packet of an association.
+// The first packet of an SA.
 fn sealed(alloc: Global, octets: u16) -> Option<Vec<u8>> {
     let payload = vec![in alloc; 0; usize::from(octets)].ok()?;
     let mut packet = Vec::new(alloc);

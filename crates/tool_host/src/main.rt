@@ -21,12 +21,12 @@
 //! | Kind | Input | Body |
 //! |---|---|---|
 //! | 1 | a datagram of IKE that came | the IPv4 address it came from, `fresh`, the datagram up to the end |
-//! | 2 | the order to start | of 4 octets each an IKE SA (0 for a new one) and an entry (counted from 0), `fresh` |
-//! | 3 | the order to probe | an IKE SA of 4 octets, `fresh` |
-//! | 4 | the order to delete a child | the child, of 4 octets, `fresh` |
-//! | 5 | the order to delete an IKE SA | the IKE SA, of 4 octets, `fresh` |
+//! | 2 | the command to start | of 4 octets each an IKE SA (0: a new one) and an entry (from 0), `fresh` |
+//! | 3 | the command to probe | an IKE SA of 4 octets, `fresh` |
+//! | 4 | the command to delete a child | the child, of 4 octets, `fresh` |
+//! | 5 | the command to delete an IKE SA | the IKE SA, of 4 octets, `fresh` |
 //! | 6 | a new secret of cookies | 32 octets |
-//! | 7 | the time | a moment of 8 octets, in milliseconds |
+//! | 7 | the time | a time of 8 octets, in milliseconds |
 //! | 8 | an ESP packet that came | the packet, from its SPI on |
 //! | 9 | a packet on its way out | the packet |
 //! | 10 | a packet that came in unprotected | the packet |
@@ -40,7 +40,7 @@
 //! | 4 | the IKE SA of what is sent or counted, 0 for none |
 //! | 4 | the child that a packet is of, or that was made, 0 for none |
 //! | 8 | the sequence number of an ESP packet, 0 for none |
-//! | 8 | the next moment at which a tick does anything, 2^64 - 1 for none |
+//! | 8 | the next time at which a tick does anything, 2^64 - 1 for none |
 //! | 4, then 4 each | how many IKE SAs were closed, and their serials |
 //! | 4, then for each 1, 4, so many | how many datagrams are to be sent, and of each its way (1 by UDP, 2 by IP), its length and its octets |
 //! | up to the end | the packet that goes up or on |

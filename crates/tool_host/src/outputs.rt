@@ -14,7 +14,7 @@ const BY_UDP: u8 = 1;
 
 const BY_IP: u8 = 2;
 
-// What stands for no moment.
+// What stands for no time.
 const NO_MOMENT: u64 = u64::MAX;
 
 /// The answer to a configuration that is taken: a kind alone.
@@ -29,7 +29,7 @@ pub fn malformed(alloc: Global, fault: FrameFault) -> Result<Vec<u8>, Stop> {
     Ok(frame)
 }
 
-/// The answer to an input, with the least moment at which a tick does anything: its kind and its fields.
+/// The answer to an input, with the least time at which a tick does anything: its kind and its fields.
 pub fn answer(alloc: Global, traced: &Traced<'_>, next: Option<u64>) -> Result<Vec<u8>, Stop> {
     let mut frame = Vec::new(alloc);
     append_head(&mut frame, traced, next)?;

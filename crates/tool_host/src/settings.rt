@@ -20,7 +20,7 @@ struct Sizes {
     cookie_secret: [u8; 32],
 }
 
-/// The gateway that the first frame spells. It holds no association.
+/// The gateway that the first frame spells. It holds no IKE SA.
 pub fn gateway_of(alloc: Global, frame: &[u8]) -> Result<Gateway<PeerCaller>, SettingsFault> {
     let mut fields = Fields::new(frame);
     let sizes = sizes_of(&mut fields)?;

@@ -10,7 +10,7 @@ use test_samples::{
 /// Why the way ended before its end.
 #[derive(Clone, Copy, Debug, PartialEq, Eq)]
 pub enum Trouble {
-    /// A step that was refused for want of memory changed what can be seen of its gateway.
+    /// A step that was refused on allocation failure changed what can be seen of its gateway.
     Changed,
     /// Something else came of a step than should.
     Other,
@@ -56,7 +56,7 @@ enum Given {
 }
 
 const WAY: &[(End, Given)] = &[
-    // An association and its first child, and a packet through it.
+    // An IKE SA and its first child, and a packet through it.
     (End::A, Given::Start),
     (End::B, Given::Message),
     (End::A, Given::Message),
@@ -64,7 +64,7 @@ const WAY: &[(End, Given)] = &[
     (End::A, Given::Message),
     (End::A, Given::Packet),
     (End::B, Given::Sealed),
-    // A further child, and a packet through that.
+    // An additional Child SA, and a packet through that.
     (End::A, Given::Further),
     (End::B, Given::Message),
     (End::A, Given::Message),
@@ -101,7 +101,7 @@ enum Taken {
     Sent(Items<u8>),
     // It sent nothing.
     Nothing,
-    // It was refused for want of memory.
+    // It was refused on allocation failure.
     Wanting,
     // It was refused or dropped for another reason.
     Refused,
@@ -133,7 +133,7 @@ impl Link {
         })
     }
 
-    /// Goes the whole way; answers how many steps were refused for want of memory, and given again.
+    /// Goes the whole way; answers how many steps were refused on allocation failure, and given again.
     pub fn go(&mut self, alloc: Global) -> Result<u32, Trouble> {
         let mut refused: u32 = 0;
         for &(end, given) in WAY {
@@ -149,7 +149,7 @@ impl Link {
         self.sent == other.sent
     }
 
-    // One step, once more where it was refused for want of memory: whether it was.
+    // One step, once more where it was refused on allocation failure: whether it was.
     fn was_refused(&mut self, alloc: Global, end: End, given: Given) -> Result<bool, Trouble> {
         let input = self.given(alloc, given)?;
         let gateway = match end {
@@ -225,7 +225,8 @@ fn sealed(alloc: Global, octets: &[u8]) -> Result<OwnedInput, AllocError> {
     Ok(OwnedInput::Esp { octets })
 }
 
-// Gives a gateway an input, once more where it is refused for want of memory: what came of it, and whether it was.
+// Gives a gateway an input, once more where it is refused on allocation failure: what came of it, and whether
+// it was.
 fn take_again(
     gateway: &mut Gateway<ScriptCaller>,
     alloc: Global,

@@ -1,13 +1,14 @@
 //! `tool_memory`: two gateways that may be refused memory anywhere, beside two that go the same way.
 //!
-//! Both pairs agree on an association and its first child, carry a packet, make a further child, ask, ask again once the time is over, delete a
-//! child and close. Where a step is refused for want of memory (E10, E20, E24, E27) it must have changed nothing that can be seen, and its
-//! input is given again. At the end both pairs have sent the same octets: so it is as if what was refused had never come, no SPI is
-//! lost, and timers are as they were. `tools/want_of_memory.py` runs this program with each of its allocations refused in turn, alone and
-//! with all after it.
+//! Both pairs agree on an IKE SA and its first child, carry a packet, make an additional Child SA, ask, ask
+//! again once the time is over, delete a child and close. Where a step is refused on allocation failure (E10,
+//! E20, E24, E27) it must have changed nothing that can be seen, and its input is given again. At the end
+//! both pairs have sent the same octets: so it is as if what was refused had never come, no SPI is lost, and
+//! timers are as they were. `tools/want_of_memory.py` runs this program with each of its allocations refused
+//! in turn, alone and with all after it.
 //!
-//! It prints what was found. The exit status is 0 where all is as it should be, 1 where it isn't, and 3 where memory was wanted twice in a
-//! row, or for the program's own lists.
+//! It prints what was found. The exit status is 0 where all is as it should be, 1 where it isn't, and 3 where
+//! memory was wanted twice in a row, or for the program's own lists.
 #![tactic(auto)]
 
 mod link;
@@ -30,7 +31,7 @@ fn main(rt: HostRuntime) -> ExitCode {
     }
 }
 
-// Goes the way twice, and answers how many steps were refused for want of memory.
+// Goes the way twice, and answers how many steps were refused on allocation failure.
 fn play(alloc: Global) -> Result<u32, Trouble> {
     let mut one = Link::new(alloc)?;
     play_beside(alloc, &mut one)

@@ -1,4 +1,4 @@
--- What one end seals the end with the mirrored pair hands up.
+-- What one end seals the end with the mirrored SA pair delivers.
 use Rattle.std.proofs.Common.{◌≡◌, ℕ, ◌%◌, ◌^◌, ◌<◌, ◌≤◌, List, [], ◌∷◌, ◌++◌, length, Some, refl, sym, ap, ◌∙◌, subst, arith, inl, inr}
 use Rattle.std.proofs.lemmas.List.{append_assoc}
 use Rattle.byteorder.specs.Endian.{big_bytes}
@@ -56,7 +56,7 @@ family_is b f (inr is) = let long = is.packet.least in version_is b 6 (omega ari
 -- ---- the far end
 
 module _ (facts : FlowFacts) (far : Database) (mirror : Pair) (octets : Octets) (number next : ℕ) (payload : Octets) where
-  -- whatever comes of such a packet at a pair that judges it
+  -- whatever comes of such a packet at an SA pair that judges it
   hands_up : IsAddressedTo far octets mirror → Judges mirror.inbound.association mirror.inbound.window octets number → IsContents octets next payload
       → ((next' : ℕ) (payload' : Octets) → IsContents octets next' payload' → (next' ≡ next) × (payload' ≡ payload))
       → IsVerdict next payload mirror.remote mirror.local (Packet payload)

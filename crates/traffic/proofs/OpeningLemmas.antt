@@ -1,4 +1,5 @@
--- What a packet is to a receiver is determined: its number, what it carries, and what is left behind.
+-- What a packet is to a receiver is determined: its sequence number, what it carries, and what is left
+-- behind.
 use Rattle.std.proofs.Common.{◌≡◌, ◌⊎◌, ◌&&◌, ◌||◌, ℕ, ◌+◌, Bool, Some, nat_eq, nat_lt, refl, sym, ap, ◌∙◌, subst, arith, inl, inr}
 use Rattle.std.proofs.lemmas.Bool.{both_ways}
 use Rattle.std.specs.Cmp.{nat_cmp_total}
@@ -22,7 +23,7 @@ use Rattle.sadb.specs.declared.pair.Pair.{Pair}
 same_window : (a b : Seen) → a.top ≡ b.top → a.size ≡ b.size → a.taken ≡ b.taken → a ≡ b
 same_window a b top size taken = λ i. record { top = top i; size = size i; taken = taken i }
 
--- the members of a window that took a number, by its top and size
+-- the members of a window that took a sequence number, by its top and size
 abbrev taken_in : Seen → ℕ → ℕ → ℕ → ℕ → Bool
 taken_in old n top size q = (nat_eq q n || set.contains old.taken q) && nat_lt top (q + size)
 
@@ -156,12 +157,12 @@ not_both_ends : (r : Receiving) (b : Octets) (n next : ℕ) (payload : Octets) (
 not_both_ends r b n next payload x e y up (inl before) = judged_anyway r.association r.window b n e up.judged before.refusal
 not_both_ends r b n next payload x e y up (inr wasted) = wasted.wasted.contents next payload up.contents
 
--- ---- the same of a pair in the table
+-- ---- the same of an SA pair in the table
 
 pub same_pair : (a b : Pair) → Some a ≡ Some b → a ≡ b
 same_pair a b is = ap (λ o. unwrap_or o a) is
 
--- the table with another window at a pair
+-- the table with another window at an SA pair
 abbrev opened_table : Database → ℕ → Pair → Receiving → Database
 opened_table old serial pair inbound = record old { pairs = map.insert old.pairs serial (record pair { inbound = inbound }) }
 

@@ -1,4 +1,4 @@
--- Finding the pair of a packet, and finding it again once it was opened.
+-- Finding the SA pair of a packet, and finding it again once it was opened.
 use Rattle.std.proofs.Common.{◌≡◌, ◌≢◌, ℕ, ◌<◌, ◌≤◌, Bool, cond, length, take, get_or, Option, Some, Bor, Result, Ok, Err, IsErr, IsErrAnd, IsSome, None, refl, sym, ap, ◌∙◌, subst, arith, inl, inr}
 use Rattle.std.proofs.lemmas.List.{get_or-take, get_or_past, length-take-le}
 use Rattle.std.proofs.lemmas.Nat.{be_bytes_4}
@@ -39,7 +39,7 @@ spi_spells b long octets =
     let len : length (take 4 b) ≡ 4 = length-take-le 4 b long in
     be_bytes_4 (take 4 b) (spi_of b) len (λ i. four_octets b i len octets) (omega arith)
 
--- the pair of a packet's SPI may be asked to open it
+-- the SA pair of a packet's SPI may be asked to open it
 pub asked_for : (pairs : PairMap) (packet : Octets) (pair : Pair) → 4 ≤ length packet → HasOctets packet → IsInbound pairs (spi_of packet) pair
     → IsForPair pairs pair.serial packet
 asked_for pairs packet pair long octets found = record {
@@ -51,13 +51,13 @@ asked_for pairs packet pair long octets found = record {
 abbrev choice : Option Pair → Option Pair → Bool → Option Pair
 choice here there b = cond b here there
 
--- what is found where a pair was changed
+-- what is found where an SA pair was changed
 inserted : (pairs : PairMap) (serial : ℕ) (pair : Pair) → map.get (map.insert pairs serial pair) serial ≡ Some pair
 inserted pairs serial pair =
     map.get-insert nat_cmp_total pairs serial pair serial
     ∙ ap (choice (Some pair) (map.get pairs serial)) (unsigned_tied serial serial ∙ eq-eqb serial serial refl)
 
--- what a packet that is opened leaves under the pair's serial: the same pair with another window
+-- what a packet that is opened leaves under the SA pair's serial: the same pair with another window
 record IsKept (old : Pair) (pairs : PairMap) : Type 0 where
   inbound : Receiving
   there : map.get pairs old.serial ≡ Some (record old { inbound = inbound })
@@ -76,14 +76,14 @@ kept old pair packet number next payload new there opened =
       association = opened.opened.taken.association ∙ ap (λ (p : Pair). p.inbound.association) same;
     }
 
--- the pair is there still
+-- the SA pair is there still
 pub pair_stays : (old : Database) (pair : Pair) (packet : Octets) (number next : ℕ) (payload : Octets) (new : Database)
     → IsAddressedTo old packet pair → OpensAt old pair.serial packet number next payload new → HasPair new pair.serial
 pair_stays old pair packet number next payload new addressed opened =
     let is = kept old pair packet number next payload new addressed.inbound.there opened in
     record { pair = record pair { inbound = is.inbound }; there = is.there }
 
--- and the verdict by its selectors is the verdict by those that the pair had
+-- and the verdict by its selectors is the verdict by those that the SA pair had
 pub opened_so : (old : Database) (pair : Pair) (packet : Octets) (number next : ℕ) (payload : Octets) (new : Database) (verdict : Verdict)
     → IsAddressedTo old packet pair → OpensAt old pair.serial packet number next payload new → IsVerdictAt new pair.serial next payload verdict
     → IsOpened old packet pair.serial number verdict new
@@ -101,7 +101,7 @@ opened_so old pair packet number next payload new verdict addressed opened judge
       verdict_is = subst (λ (p : Pair). IsVerdict next payload p.remote p.local verdict) again judged.verdict_is;
     }
 
--- where a packet is addressed to a pair, it is not addressed to none
+-- where a packet is addressed to an SA pair, it is not addressed to none
 pub addressed_anyway : (table : Database) (packet : Octets) (fault : PacketFault) → HasAddressee table packet → IsAddressedToNone table packet fault → ⊥
 addressed_anyway table packet (Esp BadLength) has is = let long = has.has_spi in absurd (omega arith)
 addressed_anyway table packet (Esp fault) has is = is
@@ -120,7 +120,7 @@ pub passed_on : (old : Database) (packet : Octets) (new : Database) (P : PacketF
 passed_on old packet new P (Ok arrival) is also receives = absurd (cc)
 passed_on old packet new P (Err fault) is also receives = receives fault also
 
--- a pair that refuses a packet
+-- an SA pair that refuses a packet
 pub not_opened : (old : Database) (pair : Pair) (packet : Octets) (fault : EspFault) (new : Database)
     → IsAddressedTo old packet pair → RefusesAt old pair.serial packet fault new → (fault ≢ BadPadding → new ≡ old) → IsNotOpened old packet fault new
 not_opened old pair packet fault new addressed refused unchanged = record { pair = pair; addressed = addressed; refused = refused; unchanged = unchanged }

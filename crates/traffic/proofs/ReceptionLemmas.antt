@@ -22,7 +22,7 @@ outcome_by child number (Packet packet) = Up child number packet
 outcome_by child number Nothing = Dummy child number
 outcome_by child number (Refused fault) = Dropped fault
 
--- the three ways of a packet that came: it reaches no pair, is not opened, or is opened
+-- the three ways of a packet that came: it reaches no SA pair, is not opened, or is opened
 pub record IsMissed (old : Database) (packet : Octets) (outcome : Outcome) (new : Database) : Type 0 where
   pub fault : PacketFault
   pub outcome_is : outcome ≡ Dropped fault
@@ -76,7 +76,7 @@ one_pair old packet a b first second =
     let serial : a.serial ≡ b.serial = second.inbound.only a.serial (has_inbound old.pairs (spi_of packet) a first.inbound) in
     same_pair a b (sym first.inbound.there ∙ ap (pair_at old.pairs) serial ∙ second.inbound.there)
 
--- a packet that reaches no pair has one refusal
+-- a packet that reaches no SA pair has one refusal
 one_miss : (old : Database) (packet : Octets) (a b : PacketFault) → IsAddressedToNone old packet a → IsAddressedToNone old packet b → a ≡ b
 one_miss old packet (Esp BadLength) (Esp BadLength) x y = refl
 one_miss old packet (Esp BadLength) UnknownAssociation x y = let long = y.0 in absurd (omega arith)
@@ -139,7 +139,7 @@ module _ (facts : FlowFacts) (old : Database) (packet : Octets) where
 
 -- ---- what a refusal leaves behind
 
--- a packet that is opened takes its number
+-- a packet that is opened takes its sequence number
 opening_takes_one : (old : Database) (packet : Octets) (child number : ℕ) (verdict : Verdict) (new : Database)
     → IsOpened old packet child number verdict new → TakesNumberAt old packet child number new
 opening_takes_one old packet child number verdict new is =

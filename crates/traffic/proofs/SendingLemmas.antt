@@ -33,7 +33,7 @@ use Rattle.traffic.proofs.FollowingLemmas.{Keeps, sent}
 use Rattle.traffic.proofs.OpeningLemmas.{same_pair}
 use Rattle.traffic.proofs.VerdictLemmas.{FlowFacts}
 
--- what the laws of policy say of decisions, and that of sadb of pairs
+-- what the laws of policy say of decisions, and that of sadb of SA pairs
 pub record DecisionFacts : Type 0 where
   pub flows : FlowFacts
   pub decision : (entries : List Entry) (f : Flow) (d : Direction) (a b : Action) → IsDecision entries f d a → IsDecision entries f d b → a ≡ b
@@ -88,7 +88,7 @@ one_sealed old serial next payload before n m new other after after' first secon
       octets = same.octets;
     }
 
--- a pair that seals is not exhausted
+-- an SA pair that seals is not exhausted
 not_exhausted : (old : Database) (serial next : ℕ) (payload before : Octets) (n : ℕ) (new : Database) (after : Octets)
     → SealsAt old serial next payload before n new after → SealRefusalAt old.pairs serial payload Exhausted → ⊥
 not_exhausted old serial next payload before n new after is refused =

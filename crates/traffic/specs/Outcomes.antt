@@ -9,13 +9,13 @@ use Rattle.traffic.specs.declared.departure.Departure.{Departure}
 use Rattle.traffic.specs.declared.departure.Departure.TheVariants as departure
 use Rattle.traffic.specs.declared.fault.PacketFault.{PacketFault}
 
--- a child is told by the serial of its pair
+-- a Child SA is told by the serial of its SA pair
 pub data Outcome : Type 0 where
-  -- what a child carried under a number goes up
+  -- what a Child SA carried under a sequence number goes up
   Up : (child number : ℕ) → Octets → Outcome
-  -- a child carried a dummy under a number
+  -- a Child SA carried a dummy under a sequence number
   Dummy : (child number : ℕ) → Outcome
-  -- an ESP packet goes out by a child under a number
+  -- an ESP packet goes out by a Child SA under a sequence number
   Sealed : (child number : ℕ) → Octets → Outcome
   -- it goes on as it is
   Clear : Octets → Outcome

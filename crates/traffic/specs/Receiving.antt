@@ -19,18 +19,18 @@ use Rattle.traffic.specs.declared.fault.PacketFault.TheVariants.{UnknownAssociat
 abbrev pub spi_of : Octets → ℕ
 spi_of packet = big_number 4 packet
 
--- the packet is long enough to have an SPI, and it is the one of this pair, Live or Deleting
+-- the packet is long enough to have an SPI, and it is the one of this SA pair, Live or Deleting
 pub record IsAddressedTo (table : Database) (packet : Octets) (pair : Pair) : Type 0 where
   pub has_spi : 4 ≤ length packet
   pub inbound : IsInbound table.pairs (spi_of packet) pair
 
--- there is such a pair
+-- there is such an SA pair
 pub record HasAddressee (table : Database) (packet : Octets) : Type 0 where
   pub has_spi : 4 ≤ length packet
   pub serial : ℕ
   pub inbound : HasInbound table.pairs (spi_of packet) serial
 
--- there is a pair with this serial
+-- there is an SA pair with this serial
 pub record HasPair (table : Database) (child : ℕ) : Type 0 where
   pub pair : Pair
   pub there : pair_at table.pairs child ≡ Some pair
@@ -41,7 +41,7 @@ pub record IsVerdictAt (table : Database) (child next : ℕ) (payload : Octets) 
   pub there : pair_at table.pairs child ≡ Some pair
   pub verdict_is : IsVerdict next payload pair.remote pair.local verdict
 
--- the packet reaches no pair: it ends before its SPI, or no pair has the SPI
+-- the packet reaches no SA pair: it ends before its SPI, or no pair has the SPI
 abbrev pub IsAddressedToNone : Database → Octets → PacketFault → Type 0
 IsAddressedToNone table packet (Esp BadLength) = length packet < 4
 IsAddressedToNone table packet (Esp fault) = ⊥
@@ -50,14 +50,14 @@ IsAddressedToNone table packet UnknownAssociation =
 IsAddressedToNone table packet (Inner fault) = ⊥
 IsAddressedToNone table packet OutsideSelectors = ⊥
 
--- the pair doesn't open it; only bad padding changes anything
+-- the SA pair doesn't open it; only bad padding changes anything
 pub record IsNotOpened (old : Database) (packet : Octets) (fault : EspFault) (new : Database) : Type 0 where
   pub pair : Pair
   pub addressed : IsAddressedTo old packet pair
   pub refused : RefusesAt old pair.serial packet fault new
   pub unchanged : fault ≢ BadPadding → new ≡ old
 
--- the pair opens it under a number, and this is the verdict on what it carried
+-- the SA pair opens it under a sequence number, and this is the verdict on what it carried
 pub record IsOpened (old : Database) (packet : Octets) (child number : ℕ) (verdict : Verdict) (new : Database) : Type 0 where
   pub pair : Pair
   pub addressed : IsAddressedTo old packet pair
@@ -97,7 +97,8 @@ abbrev pub reception_of : Result Arrival PacketFault → Outcome
 reception_of (Ok arrival) = outcome_of_arrival arrival
 reception_of (Err fault) = Dropped fault
 
--- this number was taken, the packet's, by this pair, to which it is addressed, and nothing else changed
+-- this sequence number was taken, the packet's, by this SA pair, to which it is addressed, and nothing else
+-- changed
 pub record TakesNumberAt (old : Database) (packet : Octets) (child number : ℕ) (new : Database) : Type 0 where
   pub pair : Pair
   pub addressed : IsAddressedTo old packet pair

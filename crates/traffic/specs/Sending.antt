@@ -28,13 +28,13 @@ pub record IsTreated (policy : List Entry) (direction : Direction) (packet : Oct
   pub flow : Flow
   pub decided : IsDecided policy direction packet flow action
 
--- of the pairs that carry the flow one seals the whole packet, and nothing else, as the payload of a packet
--- of its family
+-- of the SA pairs that carry the flow one seals the whole packet, and nothing else, as the payload of a
+-- packet of its family
 pub record IsSealed (old : Database) (flow : Flow) (packet : Octets) (child number : ℕ) (octets : Octets) (new : Database) : Type 0 where
   pub carrier : IsOutbound old.pairs flow child
   pub sealed : SealsAt old child (next_header_of (family_of flow.source)) packet [] number new octets
 
--- the pair that carries the flow has no number left
+-- the SA pair that carries the flow has no sequence number left
 pub record IsExhausted (old : Database) (flow : Flow) (packet : Octets) : Type 0 where
   pub child : ℕ
   pub carrier : IsOutbound old.pairs flow child
@@ -75,12 +75,12 @@ Sends old policy packet (Dropped fault) new = IsProtected old policy packet (Dro
 Sends old policy packet (Up child number inner) new = ⊥
 Sends old policy packet (Dummy child number) new = ⊥
 
--- a pair carries the flow
+-- an SA pair carries the flow
 pub record HasCarrier (table : Database) (flow : Flow) : Type 0 where
   pub child : ℕ
   pub carrier : IsOutbound table.pairs flow child
 
--- the packet is to be protected, and there is a pair for it: only then memory is asked for
+-- the packet is to be protected, and there is an SA pair for it: only then memory is asked for
 pub record IsToBeSealed (table : Database) (policy : List Entry) (packet : Octets) : Type 0 where
   pub flow : Flow
   pub decided : IsDecided policy Outward packet flow Protect

@@ -1,5 +1,5 @@
--- The verdict on what an association opened: by its next header, by what it is as a packet, and by the
--- selectors of the association (RFC 4301 section 5.2, step 4).
+-- The verdict on what an SA opened: by its next header, by what it is as a packet, and by the selectors of
+-- the SA (RFC 4301 section 5.2, step 4).
 use Rattle.std.specs.Prelude.{◌≡◌, ◌≢◌, ◌⊎◌, ℕ, List, Option, Result, Ok, Err, Some, None}
 use Rattle.std.specs.Borrow.{Bor}
 use Rattle.base.specs.Octets.{Octets}
@@ -31,8 +31,8 @@ pub record IsInnerPacket (next : ℕ) (payload : Octets) (flow : Flow) : Type 0 
   pub named : IsNamedPacket next payload
   pub flow_is : IsFlowOf payload flow
 
--- a packet of the traffic that an association carries inward: its source is on the peer's side, its target
--- on this end's
+-- a packet of the traffic that an SA carries inward: its source is on the peer's side, its target on this
+-- end's
 pub record IsTraffic (next : ℕ) (payload : Octets) (remote local : List Selector) : Type 0 where
   pub flow : Flow
   pub packet : IsInnerPacket next payload flow

@@ -17,14 +17,14 @@ use policy::{Flow, Policy, inner};
 use sadb::Table;
 use std::alloc::{AllocError, Global};
 
-/// What became of a packet on its way out. A child is told by the serial of its pair.
+/// What became of a packet on its way out. A Child SA is told by the serial of its SA pair.
 #[derive(Debug, Drop)]
 pub enum Departure<'a> {
     /// It goes protected.
     Sealed {
-        /// The serial of the pair that carries it.
+        /// The serial of the SA pair that carries it.
         child: u32,
-        /// Its number there.
+        /// Its sequence number there.
         number: u64,
         /// The ESP packet.
         octets: Items<u8>,
@@ -37,20 +37,20 @@ pub enum Departure<'a> {
     Dropped(PacketFault),
 }
 
-// The most octets that an ESP packet has beside its payload: SPI, number, padding, its length, next header
-// and check value.
+// The most octets that an ESP packet has beside its payload: SPI, sequence number, padding, its length, next
+// header and ICV.
 const OVERHEAD_LIMIT: usize = 29;
 
-/// Sends a packet by the policy's decision about its flow: sealed by the pair that carries the flow, in the
-/// clear, or not at all. What is to be protected never goes in the clear. A gateway calls
+/// Sends a packet by the policy's decision about its flow: sealed by the SA pair that carries the flow, in
+/// the clear, or not at all. What is to be protected never goes in the clear. A gateway calls
 /// [`send_remembering`], which is this with a memory of flows; this plain form stays as what that one is
 /// measured and tested against.
 ///
 /// Dropped, in this order and with nothing changed: the refusals of [`inner`] (E21, E22, E39); for a flow
 /// that is to be protected [`PacketFault::UnknownAssociation`] (E28) where no Live pair carries it, and
-/// [`EspFault::Exhausted`](esp::EspFault::Exhausted) (E12) where that pair has no number left.
+/// [`EspFault::Exhausted`](esp::EspFault::Exhausted) (E12) where that pair has no sequence number left.
 ///
-/// An error is for want of memory alone, with nothing changed. Only a packet that a pair carries takes
+/// The only error is an allocation failure, with nothing changed. Only a packet that a pair carries takes
 /// memory: once, for the ESP packet.
 pub fn send<'a>(
     alloc: Global,
@@ -72,7 +72,7 @@ pub fn send<'a>(
 }
 
 /// Sends a packet as [`send`] does, and asks a memory what is done with its flow: at a flow that is
-/// remembered it costs the same however many entries and pairs there are. What is remembered is right
+/// remembered it costs the same however many entries and SA pairs there are. What is remembered is right
 /// before, as it is of a memory that holds nothing, and afterwards.
 ///
 /// Where the memory has no places yet, it may take memory for them as well, and does without where there is
@@ -124,7 +124,7 @@ fn depart<'a>(
     }
 }
 
-// Seals a packet by the pair that carries its flow.
+// Seals a packet by the SA pair that carries its flow.
 fn seal<'a>(
     alloc: Global,
     table: &mut Table,

@@ -9,11 +9,11 @@ use thiserror::Error;
 /// Why a packet is dropped.
 #[derive(Clone, Copy, Debug, PartialEq, Eq, Error)]
 pub enum PacketFault {
-    /// No pair has the SPI of a packet that came, or none carries the flow of a packet that is to be
+    /// No SA pair has the SPI of a packet that came, or none carries the flow of a packet that is to be
     /// protected.
     #[error("E28: no association is there for the packet")]
     UnknownAssociation,
-    /// The association doesn't open it, or has no number left to seal it with. E14 also where a packet that
+    /// The SA doesn't open it, or has no sequence number left to seal it with. E14 also where a packet that
     /// came ends before its SPI does.
     #[error(transparent)]
     Esp(EspFault),
@@ -21,8 +21,8 @@ pub enum PacketFault {
     /// packet, or the one of the other family.
     #[error(transparent)]
     Inner(InnerFault),
-    /// What it carried is not traffic of its association: the pair's remote selectors don't hold the
-    /// source, or its local ones don't hold the target.
+    /// What it carried is not traffic of its SA: the SA pair's remote selectors don't hold the source, or its
+    /// local ones don't hold the target.
     #[error("E23: the packet is outside the selectors of its association")]
     OutsideSelectors,
 }

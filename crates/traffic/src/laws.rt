@@ -39,7 +39,8 @@ pub fn outcomes_are_determined()
 }
 
 /// What is to be protected never goes in the clear, outward or inward, and is never discarded: outward it is
-/// sealed, or dropped for want of an association or of a number. Only what the policy bypasses goes as it is.
+/// sealed, or dropped because an SA or a sequence number is missing. Only what the policy bypasses goes as it
+/// is.
 pub fn only_the_bypassed_goes_in_the_clear()
     ensures outward { (old new : Database) (policy : List Entry) (packet : Octets) (flow : Flow)
         (action : Action) (octets : Octets)
@@ -57,9 +58,9 @@ pub fn only_the_bypassed_goes_in_the_clear()
     policies_are_determined();
 }
 
-/// Each ESP packet that is opened takes exactly one number, its own at the pair that it is addressed to,
-/// and nothing else is changed: also where it is dropped for its padding (E19) or for what it carried (E21,
-/// E22, E23, E39). By every other refusal nothing is changed.
+/// Each ESP packet that is opened takes exactly one sequence number, its own at the SA pair that it is
+/// addressed to, and nothing else is changed: also where it is dropped for its padding (E19) or for what it
+/// carried (E21, E22, E23, E39). By every other refusal nothing is changed.
 pub fn a_packet_takes_one_number()
     ensures up { (old new : Database) (packet inner : Octets) (child number : ℕ)
         → Receives old packet (Up child number inner) new → TakesNumberAt old packet child number new }
@@ -72,8 +73,8 @@ pub fn a_packet_takes_one_number()
         → Receives old packet (Dropped fault) new → is_after_judging fault ≡ false → new ≡ old }
 {}
 
-/// A table after a packet follows the one before: no number that was taken is fresh again, no number is
-/// sealed twice, and no pair comes, goes or gets another SPI, key or selector.
+/// A table after a packet follows the one before: no sequence number that was taken is fresh again, no number
+/// is sealed twice, and no SA pair comes, goes or gets another SPI, key or selector.
 pub fn later_tables_follow()
     ensures received { (old new : Database) (packet : Octets) (outcome : Outcome)
         → IsSoundTable old → Receives old packet outcome new → Follows old new }
@@ -83,7 +84,7 @@ pub fn later_tables_follow()
     sadb::laws::later_tables_follow();
 }
 
-/// No pair comes by a packet, so what is remembered of flows stays right.
+/// No SA pair comes by a packet, so what is remembered of flows stays right.
 pub fn no_pair_comes()
     ensures received { (old new : Database) (packet : Octets) (outcome : Outcome)
         → Receives old packet outcome new → NoneComes old.pairs new.pairs }
@@ -103,8 +104,8 @@ pub fn room_stays()
     sadb::laws::room_stays();
 }
 
-/// What one end seals by a pair, the end that has the mirrored pair hands up, octet for octet, where its
-/// number is due: not below the window and not taken yet.
+/// What one end seals by an SA pair, the end that has the mirrored pair delivers, octet for octet, where its
+/// sequence number is due: not below the window and not taken yet.
 pub fn what_one_end_seals_the_other_hands_up()
     ensures { (near near_new far far_new : Database) (policy : List Entry) (packet octets : Octets)
         (child number : ℕ)

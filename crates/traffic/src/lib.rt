@@ -2,7 +2,7 @@
 //! protected, with one on its way out, and with one that comes in unprotected. No message of IKE is known
 //! here.
 //!
-//! [`receive`] finds the pair of an ESP packet by its SPI, opens the packet, and hands up what it carried
+//! [`receive`] finds the SA pair of an ESP packet by its SPI, opens the packet, and delivers what it carried
 //! where the pair's selectors hold it. [`send`] asks the policy about a packet, and seals what is to be
 //! protected by the pair that carries its flow; [`send_remembering`] does the same, and remembers what is
 //! done with flows. [`admit`] asks the policy about a packet that came in the clear. Only sending takes

@@ -1,4 +1,4 @@
-//! The verdict on what an association opened (RFC 4301, section 5.2, step 4).
+//! The verdict on what an SA opened (RFC 4301, section 5.2, step 4).
 ghost use Rattle.traffic.specs.Verdicts.{IsVerdict, verdict_of};
 ghost use Rattle.traffic.specs.declared.fault.PacketFault.{PacketFault};
 
@@ -8,7 +8,7 @@ use esp::Opened;
 use policy::{InnerFault, covers, family_of_packet, inner};
 use sadb::Pair;
 
-/// Judges what was opened by a pair: by its next header, by what it is as a packet, and by the pair's
+/// Judges what was opened by an SA pair: by its next header, by what it is as a packet, and by the pair's
 /// selectors. The packet is answered that it carried, or none where it is a dummy.
 ///
 /// Refused, in this order: [`InnerFault::BadInner`] (E21) for a next header that names no packet, or where

@@ -1,4 +1,4 @@
-//! The entries by what they are about, in the order of their numbers.
+//! The entries by what they are about, in the order of their Message IDs.
 mod keyed;
 mod messages;
 mod offers;

@@ -14,7 +14,7 @@ pub struct Report {
     pub passed: u32,
     /// How many came to something else.
     pub failed: u32,
-    /// How many were not looked at, for want of memory.
+    /// How many were not looked at because of an allocation failure.
     pub unread: u32,
     /// The number of the first one that came to something else, counted from 1.
     pub first_failed: Option<u32>,

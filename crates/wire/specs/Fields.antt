@@ -32,14 +32,14 @@ pub record SpellsNonce (octets body : List ℕ) : Type 0 where
   pub some : NONCE_LEAST ≤ length octets
   pub few : length octets ≤ NONCE_LIMIT
 
--- Section 3.10: protocol, size of the SPI, the notice's type, the SPI, the data.
+-- Section 3.10: protocol, size of the SPI, the notification's type, the SPI, the data.
 pub record SpellsNotify (protocol : ℕ) (spi : List ℕ) (kind : ℕ) (octets body : List ℕ) : Type 0 where
   pub spelled : body ≡ protocol ∷ length spi ∷ big_bytes 2 kind ++ spi ++ octets
   pub spi_fits : length spi < 2 ^ 8
   pub kind_fits : kind < 2 ^ 16
 
--- The size of each SPI of a deletion: there is none of the IKE association itself (protocol 1), and those
--- of AH and ESP (2 and 3) have four octets.
+-- The size of each SPI of a deletion: there is none of the IKE SA itself (protocol 1), and those of AH and
+-- ESP (2 and 3) have four octets.
 abbrev pub HasSpiSize : ℕ → ℕ → List ℕ → Type 0
 HasSpiSize protocol size spis =
     ((protocol ≡ IKE_PROTOCOL) × (size ≡ 0) × (spis ≡ [])) ⊎ (((protocol ≡ AH_PROTOCOL) ⊎ (protocol ≡ ESP_PROTOCOL)) × (size ≡ SPI_LENGTH))

@@ -67,7 +67,7 @@ CREATE_CHILD_SA = 36
 abbrev pub INFORMATIONAL : ℕ
 INFORMATIONAL = 37
 
--- Notices' types (section 3.10.1).
+-- Notifications' types (section 3.10.1).
 abbrev pub UNSUPPORTED_CRITICAL_PAYLOAD : ℕ
 UNSUPPORTED_CRITICAL_PAYLOAD = 1
 

@@ -1,4 +1,4 @@
--- The inside of a security association payload (RFC 7296 section 3.3).
+-- The inside of an SA payload (RFC 7296 section 3.3).
 use Rattle.std.specs.Prelude.{◌≡◌, ◌<◌, ◌≤◌, ◌^◌, ◌+◌, ℕ, List, [], ◌∷◌, ◌++◌, length}
 use Rattle.byteorder.specs.Endian.{big_bytes}
 use Rattle.wire.specs.Numbers.{MORE_PROPOSALS, MORE_TRANSFORMS}

@@ -30,7 +30,7 @@ pub enum WireFault {
     /// unknown one has the type 0 or a type with a form of its own.
     #[error("E4 at {offset}: the chain of payloads is broken")]
     BadChain { offset: usize },
-    /// The inside of a security association payload.
+    /// The inside of an SA payload.
     #[error("E5 at {offset}: a proposal is malformed")]
     BadProposal { offset: usize },
     /// The inside of a payload of traffic selectors.

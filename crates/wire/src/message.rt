@@ -30,7 +30,7 @@ pub struct Message {
 /// The header without what follows from the payloads.
 #[derive(Clone, Copy, Debug, PartialEq, Eq)]
 pub struct Header {
-    /// The SPI of the association's original initiator.
+    /// The SPI of the IKE SA's original initiator.
     pub spi_i: u64,
     /// The SPI of the responder, 0 while it is not known.
     pub spi_r: u64,
@@ -46,7 +46,7 @@ pub struct Header {
 /// The flags of a header. The other bits are sent clear and ignored.
 #[derive(Clone, Copy, Debug, PartialEq, Eq)]
 pub struct Flags {
-    /// I, 0x08: sent by the association's original initiator.
+    /// I, 0x08: sent by the IKE SA's original initiator.
     pub initiator: bool,
     /// V, 0x10: a higher major version is spoken.
     pub version: bool,
@@ -232,7 +232,8 @@ fn octets_of(alloc: Global, message: &Message) -> Result<Vec<u8>, WireFault>
 ///
 /// Refused in this order: a minor version above 15 [`WireFault::BadVersion`], the first payload that has no
 /// spelling ([`WireFault::BadChain`] to [`WireFault::BadField`] at the offset where it would begin), more
-/// than 3000 octets [`WireFault::TooLong`]. After a refusal, for want of memory too, `out` is as it was.
+/// than 3000 octets [`WireFault::TooLong`]. After a refusal, for an allocation failure too, `out` is as it
+/// was.
 pub fn encode_message(message: &Message, out: &mut Vec<u8>) -> Result<(), WireFault>
     ensures ok { OnOk result (Appends (λ b. SpellsPlainly message.now b × Spells message.now b)
         out.old.items out.new.items) }

@@ -4,7 +4,7 @@
 /// Names no payload: what ends a chain (section 3.2).
 pub const NO_PAYLOAD: u8 = 0;
 
-/// The type of a security association payload (section 3.3).
+/// The type of an SA payload (section 3.3).
 pub const SA_TYPE: u8 = 33;
 
 /// The type of a key exchange payload (section 3.4).
@@ -58,10 +58,10 @@ pub const IKE_SA_INIT: u8 = 34;
 /// The exchange that proves who both ends are (section 1.2).
 pub const IKE_AUTH: u8 = 35;
 
-/// The exchange that makes further associations (section 1.3).
+/// The exchange that makes additional SAs (section 1.3).
 pub const CREATE_CHILD_SA: u8 = 36;
 
-/// The exchange for notices, deletions and probes (section 1.4).
+/// The exchange for notifications, deletions and liveness checks (section 1.4).
 pub const INFORMATIONAL: u8 = 37;
 
 /// An unknown payload was critical (section 2.5); the data is its type.
@@ -76,7 +76,7 @@ pub const NO_PROPOSAL_CHOSEN: u16 = 14;
 /// The other end was not authenticated.
 pub const AUTHENTICATION_FAILED: u16 = 24;
 
-/// No further association is made.
+/// No additional SA is made.
 pub const NO_ADDITIONAL_SAS: u16 = 35;
 
 /// No traffic selector was acceptable (section 2.9).
@@ -136,7 +136,7 @@ pub const NONCE_LEAST: usize = 16;
 /// The most octets of a nonce (section 3.9).
 pub const NONCE_LIMIT: usize = 256;
 
-/// The length of the SPI of an AH or ESP association, in octets.
+/// The length of the SPI of an AH or ESP SA, in octets.
 pub const SPI_LENGTH: usize = 4;
 
 /// The length of a selector that is a range of IPv4 addresses, in octets.

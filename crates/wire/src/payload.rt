@@ -57,16 +57,16 @@ pub enum Payload {
     },
     /// Nonce, type 40 (section 3.9): 16 to 256 octets.
     Nonce(Items<u8>),
-    /// Notification, type 41 (section 3.10): protocol, SPI of up to 255 octets, the notice's type and its
-    /// data.
+    /// Notification, type 41 (section 3.10): protocol, SPI of up to 255 octets, the notification's type and
+    /// its data.
     Notify {
         protocol: u8,
         spi: Items<u8>,
         kind: u16,
         data: Items<u8>,
     },
-    /// Deletion, type 42 (section 3.11): of the IKE association itself (protocol 1, no SPI), or of the
-    /// associations with these SPIs (protocol 2 or 3).
+    /// Deletion, type 42 (section 3.11): of the IKE SA itself (protocol 1, no SPI), or of the SAs with these
+    /// SPIs (protocol 2 or 3).
     Delete {
         protocol: u8,
         spis: Items<u32>,

@@ -1,4 +1,4 @@
-//! Proposals of a security association payload (RFC 7296 section 3.3).
+//! Proposals of an SA payload (RFC 7296 section 3.3).
 ghost use Rattle.std.specs.Prelude.{◌≡◌, ◌==◌, length, true};
 ghost use Rattle.wire.specs.Numbers.{MORE_PROPOSALS, MORE_TRANSFORMS};
 ghost use Rattle.wire.specs.Reading.{Gives, Reads, each_of, marked_of, attribute_at, goes_on, transform_of, proposal_of, proposals_of, are_numbered, numbered_from};
@@ -176,7 +176,7 @@ fn are_numbered(proposals: &[Proposal]) -> bool
     }
 }
 
-// The inside of a security association payload.
+// The inside of an SA payload.
 #[tactic(auto, unfolding(crate::specs::Reading::proposals_of))]
 pub(crate) fn read_proposals(alloc: Global, body: Reader) -> Result<Items<Proposal>, Unread>
     ensures { Gives (λ x. x) result (proposals_of body.entry.rest.now) }
@@ -280,7 +280,7 @@ fn write_list(proposals: &[Proposal], out: &mut Vec<u8>) -> Result<(), Unwritten
     Ok(())
 }
 
-// The inside of a security association payload.
+// The inside of an SA payload.
 #[tactic(auto, unfolding(crate::specs::Writing::proposals_onto))]
 pub(crate) fn write_proposals(proposals: &[Proposal], out: &mut Vec<u8>) -> Result<(), Unwritten>
     ensures { Writes out.new.items result (proposals_onto proposals.now out.old.items) }

@@ -51,7 +51,7 @@ pub fn effects_are_determined()
 
 /// A request of this end at an established IKE SA has at most 3000 octets, if all that the IKE SA keeps to
 /// send again has. A command sends one request, which follows from what the IKE SA holds, and for an
-/// additional child also from the table, whatever spare capacity they have. The cipher's lengths have to
+/// additional Child SA also from the table, whatever spare capacity they have. The cipher's lengths have to
 /// follow from those of the plain text, as its law says, and the keys have to have 32 octets each, as they
 /// keep ([`super::keys_stay_whole`]).
 pub fn orders_are_short_and_determined()

@@ -6,9 +6,9 @@ use association::laws::{receptions_say_why, repeats_say_why};
 use exchange::laws::sealed_messages_open;
 use suite::Sealer;
 
-/// A message leaves an IKE SA its keys, and what is sent under keys is sent by an IKE SA that has them.
-/// Keys come by the response to IKE_SA_INIT alone, to an initiator that had none and asks for its child
-/// now. An initiator whose request is sent again with a cookie has none.
+/// A message leaves an IKE SA its keys, and what is sent under keys is sent by an IKE SA that has them. Keys
+/// come by the response to IKE_SA_INIT alone, to an initiator that had none and asks for its Child SA now. An
+/// initiator whose request is sent again with a cookie has none.
 pub fn keys_stay()
     ensures stay { KeysStay }
     ensures keyed { EffectsHaveTheirKeys }

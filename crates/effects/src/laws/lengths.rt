@@ -6,7 +6,7 @@ use exchange::laws::ciphers_tell_lengths;
 use suite::Sealer;
 use suite::laws::derived_keys_are_keys;
 
-/// All that an IKE SA keeps to send again has at most 3000 octets, the limit of a message: kept responses,
+/// All that an IKE SA keeps to send again has at most 3000 octets, the limit of a message: cached responses,
 /// outstanding requests, and the response that a half-open IKE SA keeps. So has what a message makes an end
 /// send, and what it sends as an IKE SA begins.
 pub fn what_is_kept_is_short()

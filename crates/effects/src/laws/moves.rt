@@ -32,7 +32,7 @@ pub fn messages_make_moves()
     windows_are_read_again();
 }
 
-/// What is sent again under an IKE SA's keys stands in its ledger: the kept response to a retransmitted
+/// What is sent again under an IKE SA's keys stands in its ledger: the cached response to a retransmitted
 /// request, and an outstanding request of any exchange but IKE_SA_INIT, which goes in clear (RFC 7296,
 /// section 2.1).
 pub fn what_goes_out_again_is_kept()

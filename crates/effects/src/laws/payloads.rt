@@ -1,4 +1,4 @@
-//! What the payloads of a message bring: a child, an answer to an offer, a proof of the peer's identity.
+//! What the payloads of a message bring: a Child SA, an answer to an offer, a proof of the peer's identity.
 ghost use Rattle.effects.specs.LawsOfPayloads.{AnswersKeepToTheirOffers, AuthAnswersKeepToTheirOffers, ChildrenAreMadeOfTheirMessages, FurtherAnswersKeepToTheirOffers, InitialAnswersKeepToTheirOffers, NoMessageAsksForAFurtherChild, NoOtherOrderAsksForAFurtherChild, FurtherOrdersAskForTheirChild, TheEstablishedProvedThemselves, TheFirstChildIsTheOneAskedFor, TheRequestAsksForTheFirstChild, WhoARequestEstablishesProvedItself, WhoAResponseEstablishesProvedItself, WhoWaitsWaitedOrAsksNow};
 
 use association::laws::receptions_say_why;
@@ -16,11 +16,11 @@ use requests::laws::later_incoming_follow;
 use suite::laws::ends_agree;
 use wire::laws::what_is_read_fits;
 
-/// A child that a message makes is what the payloads of its exchange say: IKE_AUTH for the first one,
+/// A Child SA that a message makes is what the payloads of its exchange say: IKE_AUTH for the first one,
 /// CREATE_CHILD_SA for an additional one (RFC 7296, sections 1.2, 1.3.1, 2.9 and 2.17). At the end that
 /// answers they are those that the request opened to and those that were sealed in the answer. At the end
 /// that asked they are those that the response opened to and those that asked for the child. The IKE SA is
-/// established, and the child's pair, under the IKE SA's keys, is the only new one.
+/// established, and the child's SA pair, under the IKE SA's keys, is the only new one.
 ///
 /// An initiator that waits for its first child after a message waited for it before, or asks for it now; it
 /// is the child that it asked for as it began. An end that waits for an additional child waited for it

@@ -1,10 +1,10 @@
-//! The SPIs that an IKE SA holds for its children.
+//! The SPIs that an IKE SA holds for its Child SAs.
 ghost use Rattle.effects.specs.LawsOfSpis.{NoSpiComes, OnlyTheNextSpiIsReserved, OtherOrdersBringNoSpi, OrdersLeaveSpisReserved, RequestsLeaveSpisHeld, SpisStayReserved, WhatOthersHoldStays, WhatStaysReservedStaysHeld, WhoBeginsHoldsOneSpi, WhoBeginsHoldsWhatIsReserved, WhoIsAdmittedHoldsNoSpi, WhoIsOverHoldsNoSpi};
 
 use association::laws::{children_are_asked_for, spis_stay_held, who_is_closed_holds_none};
 use create_child::laws::what_is_answered_is_given_back;
 
-/// The SPIs that are reserved for an IKE SA's children stay reserved as long as it holds them.
+/// The SPIs that are reserved for an IKE SA's Child SAs stay reserved as long as it holds them.
 pub fn spis_stay_reserved()
     ensures { SpisStayReserved }
 {
@@ -14,9 +14,9 @@ pub fn spis_stay_reserved()
     what_is_answered_is_given_back();
 }
 
-/// An SPI that an IKE SA gives up is released. What is reserved after a message was so before, and if an
-/// IKE SA held it, it still does. The same holds when a request is sent. When one more SPI is given, what
-/// is reserved was so before or is that one. An IKE SA that expires at a `Tick`, half open or closed, holds
+/// An SPI that an IKE SA gives up is released. What is reserved after a message was so before, and if an IKE
+/// SA held it, it still does. The same holds when a request is sent. When one more SPI is given, what is
+/// reserved was so before or is that one. An IKE SA that expires at a `Tick`, half-open or closed, holds
 /// none.
 pub fn what_is_given_up_is_released()
     ensures message { WhatStaysReservedStaysHeld }
@@ -25,7 +25,7 @@ pub fn what_is_given_up_is_released()
     ensures over { WhoIsOverHoldsNoSpi }
 {}
 
-/// No message gives an IKE SA an SPI: what it holds for a child it held before.
+/// No message gives an IKE SA an SPI: what it holds for a Child SA it held before.
 pub fn no_spi_comes()
     ensures { NoSpiComes }
 {
@@ -34,9 +34,9 @@ pub fn no_spi_comes()
     who_is_closed_holds_none();
 }
 
-/// An IKE SA holds an SPI from the command on that asked for the child. One that this end begins holds that
-/// of its first child alone, and one that it admits holds none. A liveness check or a deletion brings none.
-/// Which one it holds as it asks for an additional child says
+/// An IKE SA holds an SPI from the command on that asked for the Child SA. One that this end begins holds
+/// that of its first child alone, and one that it admits holds none. A liveness check or a deletion brings
+/// none. Which one it holds as it asks for an additional child says
 /// [`create_child::laws::a_further_spi_is_held`].
 pub fn spis_come_by_orders()
     ensures begun { WhoBeginsHoldsOneSpi }

@@ -1,4 +1,4 @@
-//! The requests of either end: which take effect, what is remembered of them, and how retransmissions are
+//! The requests of either end: which are processed, what is remembered of them, and how retransmissions are
 //! answered.
 ghost use Rattle.effects.specs.LawsOfRequests.{FurtherOrdersSendRequests, NewRequestsTakeEffect, NumbersTakeEffectByTheirRequestAlone, OnlyRepeatsAreAnsweredAgain, OrdersSendRequests, RepeatsAreAnswered, RequestsFollowThoseBefore, RequestsLeaveItSound, RequestsPassOrTakeEffect, TheConcludedStaysConcluded, TheForgottenIsRefused, TheHalfOpenWereSoBefore, ThePeersWindowStaysOrIsWidened, TheWindowStaysOrIsWidened, WhatBeginsIsSound, WhatIsAdmittedIsSound, WhatIsHeldStaysSound, WhatIsRepliedToTakesEffect, WhoIsEstablishedWidensBothWindows};
 
@@ -9,15 +9,15 @@ use auth::laws::windows_are_read_again;
 use requests::laws::later_incoming_follow;
 
 /// A command at an established IKE SA sends one request to the peer: a liveness check, a deletion, or a
-/// request for an additional child.
+/// request for an additional Child SA.
 pub fn orders_send_requests()
     ensures ordered { OrdersSendRequests }
     ensures further { FurtherOrdersSendRequests }
 {}
 
-/// A Message ID takes effect only by a request that bears it. The ID is not in effect and lies in the
-/// window, the exchange is allowed in the phase, and the request opens under the peer's keys. It is
-/// answered, and the response is kept. Each such request takes effect (RFC 7296, sections 2.1 to 2.3).
+/// A Message ID takes effect only by a request that bears it. The ID is not in effect and lies in the window,
+/// the exchange is allowed in the phase, and the request opens under the peer's keys. It is answered, and the
+/// response is cached. Each such request is processed (RFC 7296, sections 2.1 to 2.3).
 pub fn requests_take_effect()
     ensures alone { NumbersTakeEffectByTheirRequestAlone }
     ensures always { NewRequestsTakeEffect }
@@ -30,10 +30,10 @@ pub fn requests_take_effect()
     what_is_due_is_received();
 }
 
-/// What took effect is remembered (RFC 7296, sections 2.1 to 2.3). The peer's requests in effect only grow.
+/// What was processed is remembered (RFC 7296, sections 2.1 to 2.3). The peer's requests in effect only grow.
 /// Their window widens once, when IKE_AUTH establishes the IKE SA, to the one that this end announces; so
-/// does the window for this end's requests, to the one that the message announces. An IKE SA that is half
-/// open was so before, by the same request with the same response. What is kept satisfies its invariant
+/// does the window for this end's requests, to the one that the message announces. An IKE SA that is
+/// half-open was so before, by the same request with the same response. What is kept satisfies its invariant
 /// from the beginning on.
 pub fn requests_are_remembered()
     ensures follows { RequestsFollowThoseBefore }
@@ -52,8 +52,8 @@ pub fn requests_are_remembered()
     windows_are_read_again();
 }
 
-/// A retransmitted request that opens gets the kept response. Where that is kept no more, it is dropped as
-/// forgotten (E30). Nothing else gets a kept response.
+/// A retransmitted request that opens gets the cached response. Where that is kept no more, it is dropped as
+/// forgotten (E30). Nothing else gets a cached response.
 pub fn repeats_are_answered()
     ensures repeated { RepeatsAreAnswered }
     ensures forgotten { TheForgottenIsRefused }

@@ -3,9 +3,9 @@ ghost use Rattle.effects.specs.LawsOfWaiting.{FirstRequestsWaitFromNow, NewReque
 
 use moments::laws::nothing_is_due_afterwards;
 
-/// A message or a command at some time leaves nothing overdue at that time that was not before, and no
-/// timer that starts later. A request that is sent waits from then on, and an IKE SA that becomes half open
-/// or closed is held from then on.
+/// A message or a command at some time leaves nothing overdue at that time that was not before, and no timer
+/// that starts later. A request that is sent waits from then on, and an IKE SA that becomes half-open or
+/// closed is held from then on.
 pub fn nothing_comes_due()
     ensures taken { NothingComesDueByAMessage }
     ensures begun { NothingIsDueAsOneBegins }

@@ -35,7 +35,7 @@ pub fn what_is_made_fits<C>()
 }
 
 /// What a step's trace names is stored in the world's log: an encrypted message with its key record, marked
-/// as request or response, and the key record and the child that the step made. A retransmitted request is
+/// as request or response, and the key record and the Child SA that the step made. A retransmitted request is
 /// stored too, except that of IKE_SA_INIT, which goes in clear.
 pub fn what_is_told_is_stored<C>()
     ensures message { SentMessagesAreStored C }

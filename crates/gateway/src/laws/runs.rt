@@ -13,14 +13,14 @@ use traffic::laws::a_packet_takes_one_number;
 
 /// Every run keeps all promises of a run, over however many inputs.
 ///
-/// No number of a child is judged at two steps. Each ESP packet that was sent to a child is judged exactly at
-/// its first arrival while the child's pair stands and its number is rightly recovered and lies inside or
-/// above the window, as long as no check value is forged and the number was not taken before the run, and is
-/// answered there by the verdict on what it holds. Of every other ESP packet nothing is handed up, and it
+/// No number of a Child SA is judged at two steps. Each ESP packet that was sent to a child is judged exactly
+/// at its first arrival while the child's pair stands and its number is rightly recovered and lies inside or
+/// above the window, as long as no ICV is forged and the number was not taken before the run, and is
+/// answered there by the verdict on what it holds. Of every other ESP packet nothing is delivered, and it
 /// changes nothing. An ESP packet takes no memory, and touches the table alone (RFC 4301, section 5.2; RFC
 /// 4303, section 3.4).
 ///
-/// Each association that is established after a step was so before the run, or its peer proved itself at a
+/// Each IKE SA that is established after a step was so before the run, or its peer proved itself at a
 /// step of it: by a datagram that opened under its keys, to what the caller's check accepts (RFC 7296,
 /// section 2.15).
 pub fn every_run_keeps_its_promises<C>()
@@ -42,7 +42,7 @@ pub fn every_run_keeps_its_promises<C>()
     a_packet_takes_one_number();
 }
 
-/// So over a list that is given to a new gateway the peer of each association that is established proved
+/// So over a list that is given to a new gateway the peer of each IKE SA that is established proved
 /// itself at a step of that list.
 pub fn the_established_of_new_gateways_proved_themselves<C>()
     ensures { TheEstablishedOfNewGatewaysProvedThemselves C }
@@ -53,8 +53,8 @@ pub fn the_established_of_new_gateways_proved_themselves<C>()
 
 /// A run over one list of inputs, and a run over the next list from where the first ended, are one run over
 /// both, whose steps are those of the first and then those of the second. So calls in a row are one run over
-/// all their lists, of which everything is promised that is promised of one list: what was judged or took
-/// effect at one call is judged or takes effect at no later one.
+/// all their lists, of which everything is promised that is promised of one list: what was judged or was
+/// processed at one call is judged or is processed at no later one.
 pub fn runs_in_a_row_are_one_run<C>()
     ensures both { RunsInARowAreOneRun C }
     ensures histories { HistoriesInARowAreOneHistory C }
@@ -76,7 +76,7 @@ pub fn the_premises_of_packets_are_met<C>()
 }
 
 /// Non-vacuity: the assumptions on requests and on retransmissions can be met. They hold of two steps in a
-/// row. A datagram opens as a new request of an IKE SA, takes effect and is answered, and comes again while
+/// row. A datagram opens as a new request of an IKE SA, is processed and is answered, and comes again while
 /// the response is kept. Configuration, provider's value, source address and fresh octets may be any. The
 /// provider's cipher hides nothing, and all laws of its traits hold.
 pub fn the_premises_of_requests_are_met<C>()

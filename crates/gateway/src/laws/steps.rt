@@ -19,9 +19,9 @@ pub fn what_is_quiet_changes_nothing<C>()
 }
 
 /// A step is functional, and so is a run: output, trace and what the gateway holds afterwards follow from
-/// the input and from what it held before, whatever spare capacity it has. Inputs that are refused for want
-/// of memory are left out. A datagram has to be of octets, the cipher's lengths have to follow from those
-/// of the plain text, as its law says, and the keys of the IKE SAs have to have 32 octets each, which
+/// the input and from what it held before, whatever spare capacity it has. Inputs that are refused on
+/// allocation failure are left out. A datagram has to be of octets, the cipher's lengths have to follow from
+/// those of the plain text, as its law says, and the keys of the IKE SAs have to have 32 octets each, which
 /// always holds.
 pub fn steps_are_determined<C>()
     ensures traces { TracesAreDetermined C }
@@ -36,8 +36,8 @@ pub fn steps_are_determined<C>()
     outcomes_go_by_content();
 }
 
-/// No moment of 64 bits before the one that [`next_moment`](crate::Gateway::next_moment) tells sends, closes
-/// or removes anything, and none is refused: the gateway is as it was but for its greatest moment. The
+/// No time of 64 bits before the one that [`next_moment`](crate::Gateway::next_moment) tells sends, closes
+/// or removes anything, and none is refused: the gateway is as it was but for its greatest time. The
 /// premise on what is due holds of every gateway ([`invariants_hold`](crate::Gateway::invariants_hold)).
 pub fn nothing_comes_before_the_next_moment<C>()
     ensures { NothingComesBeforeTheNextMoment C }
@@ -45,8 +45,8 @@ pub fn nothing_comes_before_the_next_moment<C>()
     ike::laws::nothing_comes_before_the_next_moment();
 }
 
-/// And the moment that it tells does something, where it isn't refused for want of memory: a request goes out
-/// again, an association is closed, or not as many are held from then on. Both premises stand in the contract
+/// And the time that it tells does something, where it isn't refused on allocation failure: a request goes
+/// out again, an IKE SA is closed, or not as many are held from then on. Both premises stand in the contract
 /// of [`next_moment`](crate::Gateway::next_moment).
 pub fn the_next_moment_brings_something<C>()
     ensures { TheNextMomentBringsSomething C }

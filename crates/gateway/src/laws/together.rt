@@ -1,4 +1,4 @@
-//! What two gateways agree on beside their requests: children, packets and windows.
+//! What two gateways agree on beside their requests: Child SAs, packets and windows.
 ghost use Rattle.effects.specs.Taking.{meaning_of};
 ghost use Rattle.gateway.specs.LawsOfBothEnds.{BothEndsKeepTheirPromises, NewWorldsAreWhollySound, WindowsAccountedForFit, WindowsStayAccountedFor};
 
@@ -24,7 +24,7 @@ pub fn new_worlds_are_wholly_sound<C>()
 }
 
 /// Every list of events, whatever its history, keeps what is promised of both ends beside their requests.
-/// The children that both ends made of one request mirror each other. Each was made of the payloads of that
+/// The Child SAs that both ends made of one request mirror each other. Each was made of the payloads of that
 /// request and of its response, which one end sealed and the other opened (RFC 7296, sections 2.9 and
 /// 2.17). What such a child delivers, the other end sealed (RFC 4301, sections 5.1 and 5.2).
 pub fn both_ends_keep_their_promises<C: Sealer + Agreement + Proof>()

@@ -49,10 +49,10 @@ pub fn every_world_stays_sound<C>()
 /// Message IDs keep in step. Take a world that is sound under a key record, and an IKE SA that one end
 /// holds under it as initiator and the other as responder. For the requests of either end:
 ///
-/// - what took effect at the answering end was issued by the asking end, and what that counts as answered
-///   took effect;
+/// - what was processed at the answering end was issued by the asking end, and what that counts as answered
+///   was processed;
 /// - both keep within the windows, as the asking end counts the other's;
-/// - where it counts a window of one, the requests that took effect are the first ones, and those answered
+/// - where it counts a window of one, the requests that were processed are the first ones, and those answered
 ///   are the same or all but the last.
 ///
 /// What an end took, the other sent, also where the other holds the IKE SA no more. As each request and as
@@ -67,7 +67,7 @@ pub fn ends_of_a_sound_world_agree<C>()
 
 /// Non-vacuity: the assumptions on both ends can be met. They hold of a world that is sound for a key
 /// record, with an IKE SA under it at each end, one as its initiator and one as its responder. A request
-/// reaches the responder, takes effect and is answered, and the response is matched; both were sent before.
+/// reaches the responder, is processed and is answered, and the response is matched; both were sent before.
 /// Configuration, provider's value, what went before, source addresses and fresh octets may be any. The
 /// provider's cipher hides nothing, and all laws of its traits hold.
 pub fn the_premises_of_two_ends_are_met<C>()

@@ -32,7 +32,7 @@ pub struct Log {
 }
 
 /// Memory for what one step may send and make: the octets of one datagram, of the requests that may be
-/// retransmitted, and the selectors of one child.
+/// retransmitted, and the selectors of one Child SA.
 #[derive(Drop)]
 pub struct Spare {
     octets: Vec<u8>,
@@ -233,7 +233,7 @@ fn keyed<C>(end: End, gateway: &Gateway<C>, serial: Option<u32>) -> Option<Keyed
     Some(Keyed { end, keys })
 }
 
-// The child that was made, if one was.
+// The Child SA that was made, if one was.
 fn child<C>(
     end: End,
     gateway: &Gateway<C>,

@@ -17,7 +17,7 @@ use suite::{Agreement, Proof, Sealer};
 ///
 /// Ends with [`RunFault::NoRoom`] (E38) and the number of events that took place, the first ones, where
 /// there was no memory for the next output or for what may be stored of it. That is one datagram of at most
-/// 16,664 octets, one key record and one child, and for a `Tick` 3000 octets for each request that waits
+/// 16,664 octets, one key record and one Child SA, and for a `Tick` 3000 octets for each request that waits
 /// for an answer. All of it is reserved before an event takes place, so none does without its output. (That
 /// E38 comes in no other case is tested and not proved: no contract says when memory is there.)
 ///
@@ -29,10 +29,10 @@ use suite::{Agreement, Proof, Sealer};
 /// In a sound world, take an IKE SA that one end holds as initiator and the other as responder under the
 /// record. For the requests of either end:
 ///
-/// - what took effect at the answering end was issued by the asking end, and what that counts as answered
-///   took effect;
+/// - what was processed at the answering end was issued by the asking end, and what that counts as answered
+///   was processed;
 /// - both keep within the windows, as the asking end counts the other's;
-/// - where it counts a window of one, the requests that took effect are the first ones, none skipped, and
+/// - where it counts a window of one, the requests that were processed are the first ones, none skipped, and
 ///   those answered are the same or all but the last (RFC 7296, sections 2.1 to 2.3).
 ///
 /// That two ends come to one record is not promised here.

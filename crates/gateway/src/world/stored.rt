@@ -33,7 +33,7 @@ pub struct Event<'a> {
     pub input: Input<'a>,
 }
 
-/// One direction of a child: the SA that its packets name by their SPI (RFC 4301, section 4.1).
+/// One direction of a Child SA: the SA that its packets name by their SPI (RFC 4301, section 4.1).
 #[derive(Clone, Copy, PartialEq, Eq)]
 pub struct Simplex {
     pub spi: u32,
@@ -56,7 +56,7 @@ pub enum Protection {
         /// The Message ID: of the request that it is or answers.
         number: u32,
     },
-    /// A child's outbound SA, under this sequence number.
+    /// A Child SA's outbound SA, under this sequence number.
     Esp {
         by: Simplex,
         number: u64,
@@ -79,7 +79,7 @@ pub struct Keyed {
     pub keys: KeyRecord,
 }
 
-/// A child that an end made.
+/// A Child SA that an end made.
 #[derive(Drop)]
 pub struct Child {
     pub end: End,

@@ -59,7 +59,7 @@ fn exchange_line(
     Ok(format!(in alloc; "exchange {exchange} flags {flags} id {id} length {length}\n")?)
 }
 
-// An SPI of an IKE association.
+// An SPI of an IKE SA.
 fn of_spi(alloc: Global, spi: u64) -> Result<String, AllocError>
     ensures { IfOk result (λ text. string_bytes text ≡ hexadecimal 16 spi) }
 {

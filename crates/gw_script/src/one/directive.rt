@@ -41,7 +41,7 @@ pub enum Directive {
     },
 }
 
-/// What the two ends of an association agree on.
+/// What the two ends of an SA agree on.
 #[derive(Clone, Copy, Debug)]
 pub struct Terms {
     /// The security parameters index, at least 256 (RFC 4303 section 2.1).
@@ -86,7 +86,7 @@ impl Directive {
 }
 
 impl Terms {
-    // The least index that an association may have (RFC 4303 section 2.1).
+    // The least index that an SA may have (RFC 4303 section 2.1).
     const SPI_LEAST: u32 = 256;
 
     fn read(words: &mut Words) -> Result<Terms, LineFault> {

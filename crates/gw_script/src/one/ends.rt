@@ -1,4 +1,4 @@
-//! The two ends of one association.
+//! The two ends of one SA.
 ghost use Rattle.std.specs.Prelude.{◌≡◌};
 
 use super::directive::Terms;
@@ -8,7 +8,7 @@ use esp::{Inbound, Outbound};
 use replay::{BlockWindow, is_block_count};
 use std::alloc::{AllocError, Global};
 
-/// The two ends of one association, and the packets that its sender sealed.
+/// The two ends of one SA, and the packets that its sender sealed.
 #[derive(Drop)]
 pub struct Ends {
     alloc: Global,
@@ -91,7 +91,7 @@ impl Ends {
         self.packets.get(index as usize).ok_or(LineFault::Refused)
     }
 
-    // Gives the receiver a packet, but only if it has the association's index.
+    // Gives the receiver a packet, but only if it has the SA's index.
     fn receive(&mut self, packet: &[u8]) -> Result<Report, LineFault> {
         if !packet.starts_with(&self.terms.spi.to_be_bytes()) {
             return Ok(Report::UnknownAssociation);

@@ -30,7 +30,7 @@ pub enum Report {
     },
     /// A packet as it was sealed.
     Packet(Vec<u8>),
-    /// No association has the packet's index.
+    /// No SA has the packet's index.
     UnknownAssociation,
     /// An end refused.
     Refused(EspFault),

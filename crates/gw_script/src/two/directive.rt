@@ -29,18 +29,18 @@ pub enum Term {
 /// What is done with the gateways. Datagrams are named by their places among all that were sent, from 1.
 #[derive(Debug, Drop)]
 pub enum Act {
-    /// `start END ENTRY`: a new IKE association, with a child by an entry of the policy.
+    /// `start END ENTRY`: a new IKE SA, with a child by an entry of the policy.
     Start {
         side: Side,
         entry: u32,
     },
-    /// `child END IKE ENTRY`: a further child of an IKE association, by an entry of the policy.
+    /// `child END IKE ENTRY`: an additional Child SA of an IKE SA, by an entry of the policy.
     Child {
         side: Side,
         ike: u32,
         entry: u32,
     },
-    /// `probe END IKE`: the peer of an IKE association is asked whether it is there.
+    /// `probe END IKE`: the peer of an IKE SA is asked whether it is there.
     Probe {
         side: Side,
         ike: u32,
@@ -50,7 +50,7 @@ pub enum Act {
         side: Side,
         child: u32,
     },
-    /// `close END IKE`: an IKE association is to be deleted, with its children.
+    /// `close END IKE`: an IKE SA is to be deleted, with its children.
     Close {
         side: Side,
         ike: u32,
@@ -146,7 +146,7 @@ impl Directive {
     }
 }
 
-// Extended numbers are what both ends allow where nothing is said: so there is no other word than `no`.
+// ESN is what both ends allow where nothing is said: so there is no other word than `no`.
 fn read_not_extended(words: &mut Words) -> Result<Term, LineFault> {
     match words.word()? {
         b"no" => Ok(Term::NotExtended),

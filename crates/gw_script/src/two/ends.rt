@@ -60,7 +60,7 @@ impl Ends {
         }
     }
 
-    // Asks for a child with a new IKE association, or for a further one of the association with this serial.
+    // Asks for a child with a new IKE SA, or for a further one of the IKE SA with this serial.
     fn start(&mut self, side: Side, ike: Option<u32>, entry: u32) -> Result<String, LineFault> {
         let fresh = &fresh(self.alloc, self.input)?;
         self.give(side, Input::Start { ike, entry, fresh })

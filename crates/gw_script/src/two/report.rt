@@ -62,7 +62,7 @@ pub fn of_output(alloc: Global, output: &Output<'_>, place: usize) -> Result<Str
     }
 }
 
-// The lines of what a moment brought; where that is nothing, a line that says so.
+// The lines of what a tick brought; where that is nothing, a line that says so.
 fn of_moment(
     alloc: Global,
     requests: &[Resent],
@@ -100,7 +100,7 @@ fn of_counted(
     }
 }
 
-// The line of an IKE association that was closed, if one was.
+// The line of an IKE SA that was closed, if one was.
 fn of_end(alloc: Global, closed: Option<u32>) -> Result<String, AllocError> {
     match closed {
         Some(ike) => format!(in alloc; "closed ike {ike}\n"),

@@ -1,4 +1,4 @@
-//! The children that a step makes, and the answers to offers of IKE SAs and of children.
+//! The Child SAs that a step makes, and the answers to offers of IKE SAs and of children.
 ghost use Rattle.ike.specs.LawsOfChildren.{ChildrenAreExtendedWhereAllowed, ChildrenAreMadeOfTheirMessages, ChildrenHaveFewSelectors, FirstAnswersKeepToTheirOffers, FirstChildrenMirror, FurtherChildrenMirror, OrdersAskForTheFurtherChild, OtherAnswersHaveNoSa, SealedAnswersKeepToTheirOffers, WhoComesToKeysAsksForItsFirstChild, WhoWaitsFurtherWaitedOrIsOrdered, WhoWaitsWaitedOrAsksNow};
 
 use crate::laws::soundness_stays;
@@ -6,7 +6,7 @@ use children::laws::children_mirror;
 use effects::laws::{associations_stay_themselves, keys_stay, requests_wait_on};
 use moments::laws::some_are_held_on;
 
-/// A child that a step makes is what the payloads of its exchange say: IKE_AUTH for the first one,
+/// A Child SA that a step makes is what the payloads of its exchange say: IKE_AUTH for the first one,
 /// CREATE_CHILD_SA for an additional one (RFC 7296, sections 1.2, 1.3.1, 2.9 and 2.17). They are the
 /// payloads of the datagram that came, and those of the other message. At the end that answers that is the
 /// response which it seals; at the end that asked, the request which it sent.
@@ -43,7 +43,7 @@ pub fn answers_keep_to_their_offers()
     effects::laws::answers_keep_to_their_offers();
 }
 
-/// A child that a step makes has at most 16 selectors on either side (RFC 7296, section 3.13; a limit of
+/// A Child SA that a step makes has at most 16 selectors on either side (RFC 7296, section 3.13; a limit of
 /// this implementation).
 pub fn children_have_few_selectors()
     ensures { ChildrenHaveFewSelectors }
@@ -51,7 +51,7 @@ pub fn children_have_few_selectors()
     children_are_made_of_their_messages();
 }
 
-/// A child that a step makes receives with extended sequence numbers (ESN) only where this end's
+/// A Child SA that a step makes receives with extended sequence numbers (ESN) only where this end's
 /// configuration allows them (RFC 4303, section 2.2.1).
 pub fn children_are_extended_where_allowed()
     ensures { ChildrenAreExtendedWhereAllowed }
@@ -59,8 +59,8 @@ pub fn children_are_extended_where_allowed()
     children_are_made_of_their_messages();
 }
 
-/// The two ends' pairs of a first child mirror each other. The initiator's is made of the response, and the
-/// responder's of the same response and of a request that asked for the initiator's child, under equal
+/// The two ends' pairs of a first Child SA mirror each other. The initiator's is made of the response, and
+/// the responder's of the same response and of a request that asked for the initiator's child, under equal
 /// keys.
 pub fn first_children_mirror()
     ensures { FirstChildrenMirror }
@@ -68,7 +68,7 @@ pub fn first_children_mirror()
     children_mirror();
 }
 
-/// The two ends' pairs of an additional child mirror each other. That of the asking end is made of the
+/// The two ends' pairs of an additional Child SA mirror each other. That of the asking end is made of the
 /// response, and that of the answering end of the same response and of the request that asked for this
 /// child with this nonce, under equal keys.
 pub fn further_children_mirror()

@@ -30,7 +30,7 @@ pub fn few_go_out_again()
 }
 
 /// The trace is right and complete. What it names, the machine holds from then on: the IKE SA whose keys
-/// sealed a message or were made, and the pair of a child that was made. All that is new is named: keys
+/// sealed a message or were made, and the pair of a Child SA that was made. All that is new is named: keys
 /// that an IKE SA did not have before, and a pair that was not in the table.
 ///
 /// An IKE SA keeps its keys as long as it is held. What a `Tick` retransmits is of an IKE SA with keys, but

@@ -14,7 +14,7 @@ use sa_init::laws::acceptance_is_limited;
 /// - at most 128 IKE SAs are held, by rising serial, and at most 32 of them are half open;
 /// - each has an SPI of its own, which is not zero;
 /// - one that waits for a response was begun by this end, and one that is half open by the peer;
-/// - the SPIs that they hold for children are reserved in the table, each for one child alone;
+/// - the SPIs that they hold for Child SAs are reserved in the table, each for one child alone;
 /// - their keys have 32 octets each;
 /// - the configuration is a valid one, and children are asked for with ESN only where it allows that.
 pub fn soundness_stays()
@@ -36,7 +36,7 @@ pub fn soundness_stays()
     some_are_held_on();
 }
 
-/// No SPI leaks: each that is reserved in the table is held by an IKE SA, for a child that it asked for.
+/// No SPI leaks: each that is reserved in the table is held by an IKE SA, for a Child SA that it asked for.
 /// This holds of a machine without IKE SAs and a table without reservations. Every step keeps it, so an SPI
 /// is released when its request is answered, refused or given up. So does any other call on the table that
 /// reserves none. That a released SPI is never given again says [`sadb::laws::no_spi_is_given_twice`].

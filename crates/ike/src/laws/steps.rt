@@ -1,5 +1,5 @@
-//! What a step does to what the machine holds: one thing, by few moves, and but for a moment to one
-//! association.
+//! What a step does to what the machine holds: one thing, by few moves, and but for a tick to one
+//! IKE SA.
 ghost use Rattle.ike.specs.LawsOfSteps.{FreshOctetsOpen, OneAssociationIsChanged, RefusalsAreDetermined, StepsAreDetermined, StepsAreMoves, StepsKeepTheirLaws, WhatIsDoneIsNotRefused, WhatIsQuietChangesNothing};
 
 use crate::laws::{
@@ -40,8 +40,8 @@ pub fn what_is_quiet_changes_nothing()
 }
 
 /// A step is functional. Output, trace, machine and table follow from the input and from what machine and
-/// table held before, whatever spare capacity they have. A step that can be done is refused for want of
-/// memory alone, and every other refusal has one reason. A datagram has to be of octets, the cipher's
+/// table held before, whatever spare capacity they have. A step that can be done is refused on allocation
+/// failure alone, and every other refusal has one reason. A datagram has to be of octets, the cipher's
 /// lengths have to follow from those of the plain text, as its law says, and keys have to have 32 octets
 /// each, as they keep ([`super::keys_stay_whole`]).
 pub fn steps_are_determined()
@@ -62,14 +62,14 @@ pub fn steps_are_determined()
 }
 
 /// What a step does to an IKE SA with keys, seen without its payloads, is at most two *moves*. A move is
-/// one of: keys are made; a request is sent first; a response is matched; a request of the peer takes
-/// effect; the IKE SA is closed; or it is held no more. The moves lead from the *ledger* before (keys,
+/// one of: keys are made; a request is sent first; a response is matched; a request of the peer is processed;
+/// the IKE SA is closed; or it is held no more. The moves lead from the *ledger* before (keys,
 /// role, Message IDs, and octets that wait or are kept) to the ledger after, so nothing else in it changes.
 ///
 /// - The output names each move, and nothing that isn't one. What is sent under the IKE SA's keys is sent
-///   by a move or is a kept response. What a `Tick` retransmits waits for its answer; beside
+///   by a move or is a cached response. What a `Tick` retransmits waits for its answer; beside
 ///   retransmissions there are no moves.
-/// - A request that takes effect, or a response that is matched, came as that message of the peer. Keys
+/// - A request that is processed, or a response that is matched, came as that message of the peer. Keys
 ///   come by a datagram of IKE_SA_INIT.
 /// - Where the cipher opens what it seals ([`fresh_octets_open`]), a request or response that is sent opens
 ///   as this end's message with that Message ID (RFC 7296, sections 2.1 to 2.4 and 3.14).
@@ -96,8 +96,8 @@ pub fn fresh_octets_open<S: Sealer>(sealer: &S)
 }
 
 /// What [`Ike::step`](crate::Ike::step) promises beside what its input does: the moves, who is established,
-/// what the trace names and what goes in clear, of what a child is made and what an answer holds, that one
-/// association is changed but for a moment, and that no datagram makes a half-open one without a right cookie
+/// what the trace names and what goes in clear, of what a Child SA is made and what an answer holds, that one
+/// IKE SA is changed but for a tick, and that no datagram makes a half-open one without a right cookie
 /// under load. Each is a law of its own.
 pub fn steps_keep_their_laws()
     ensures { StepsKeepTheirLaws }

@@ -1,4 +1,4 @@
-//! The peer's requests: which take effect, what is remembered of them, and how retransmissions are
+//! The peer's requests: which are processed, what is remembered of them, and how retransmissions are
 //! answered.
 ghost use Rattle.ike.specs.LawsOfRequests.{InitialRepeatsAreAnswered, InitialRepeatsAreRefusedForMemoryAlone, NewRequestsTakeEffect, NumbersTakeEffectByTheirDatagramAlone, OnlyRepeatsAreAnsweredAgain, OnlyWhatTakesEffectIsRepliedTo, RepeatsAreAnswered, RequestsAreRefusedForMemoryAlone, RequestsAreQuietOrNew, RequestsFollowThoseBefore, SerialsAreBelowTheNext, SerialsRise, TheConcludedStaysConcluded, TheForgottenIsDropped, TheHalfOpenWereSoBefore, TheWindowStaysOrIsWidened, WhatComesHalfOpenIsAdmitted, WhatComesHasTheNextSerial, WhatIsGoneWasGivenUp, WhatIsHeldIsSound};
 
@@ -8,13 +8,13 @@ use moments::laws::{some_are_held_on, what_is_held_was_held};
 use requests::laws::later_incoming_follow;
 use wire::laws::{octets_spell_one_message, what_is_spelled_has_no_fault};
 
-/// A request of the peer takes effect by its own datagram alone (RFC 7296, sections 2.1 to 2.3). The
+/// A request of the peer is processed by its own datagram alone (RFC 7296, sections 2.1 to 2.3). The
 /// datagram opens as the request with that Message ID. The ID is not in effect yet and lies below the
 /// lowest missing one plus the window, and the exchange is allowed in the IKE SA's phase. The request is
 /// answered, and the response is kept.
 ///
-/// Each such datagram takes effect, unless it is refused for want of memory. Any other datagram that opens
-/// changes nothing. Only a request that takes effect, or one of IKE_SA_INIT, gets a new response.
+/// Each such datagram is processed, unless it is refused on allocation failure. Any other datagram that opens
+/// changes nothing. Only a request that is processed, or one of IKE_SA_INIT, gets a new response.
 pub fn requests_take_effect()
     ensures alone { NumbersTakeEffectByTheirDatagramAlone }
     ensures always { NewRequestsTakeEffect }
@@ -31,7 +31,7 @@ pub fn requests_take_effect()
     what_is_spelled_has_no_fault();
 }
 
-/// What took effect stays in effect and is remembered, whatever a step does.
+/// What was processed stays in effect and is remembered, whatever a step does.
 ///
 /// - Of an IKE SA that stays held, the requests in effect only grow. The window widens once, when IKE_AUTH
 ///   is done, to the one that this end announces.
@@ -63,10 +63,10 @@ pub fn requests_are_remembered()
     what_is_spelled_has_no_fault();
 }
 
-/// A retransmission gets the kept response, and changes nothing. It is a datagram that opens as a request
+/// A retransmission gets the cached response, and changes nothing. It is a datagram that opens as a request
 /// whose response is kept, or has the very octets of the IKE_SA_INIT request that made an IKE SA which is
 /// still half open. A request in effect whose response is no longer kept is dropped (E30). None of these is
-/// refused but for want of memory, and nothing else gets a kept response (RFC 7296, section 2.1).
+/// refused but on allocation failure, and nothing else gets a cached response (RFC 7296, section 2.1).
 pub fn repeats_are_answered()
     ensures repeated { RepeatsAreAnswered }
     ensures forgotten { TheForgottenIsDropped }

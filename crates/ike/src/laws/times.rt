@@ -11,7 +11,7 @@ use moments::laws::{
 ///
 /// - A machine without IKE SAs has nothing overdue (`first`), and a step leaves nothing overdue where
 ///   nothing was (`timely`).
-/// - With a `Tick` all comes that is due then (`comes`). It is refused for want of memory alone
+/// - With a `Tick` all comes that is due then (`comes`). It is refused on allocation failure alone
 ///   (`unrefused`), and only where a retransmission or a closing is due (`needed`).
 /// - At any other step no time passes (`stays`). A request that waits after it waited before, since the
 ///   same time, or is sent now. One that waited before still does, unless it is answered, sent anew, or its
@@ -34,9 +34,9 @@ pub fn what_is_due_comes_in_time()
     what_is_held_was_held();
 }
 
-/// At a machine at which nothing is due that its moment has reached, no moment of 64 bits before the one that
+/// At a machine at which nothing is due that its time has reached, no time of 64 bits before the one that
 /// [`next_moment`](crate::Ike::next_moment) tells sends, closes or removes anything: the machine is as it was
-/// but for its greatest moment, and so is the table (`nothing`). Such a moment is never refused
+/// but for its greatest time, and so is the table (`nothing`). Such a tick is never refused
 /// (`unrefused`).
 pub fn nothing_comes_before_the_next_moment()
     ensures nothing { NothingComesBeforeTheNextMoment }
@@ -45,8 +45,8 @@ pub fn nothing_comes_before_the_next_moment()
     moments::laws::nothing_comes_before_its_time();
 }
 
-/// And a moment at which something is due does something, where it isn't refused for want of memory: a
-/// request goes out again, an association is closed, or not as many are held from then on.
+/// And a time at which something is due does something, where it isn't refused on allocation failure: a
+/// request goes out again, an IKE SA is closed, or not as many are held from then on.
 pub fn the_next_moment_brings_something()
     ensures { TheNextMomentBringsSomething }
 {

@@ -47,7 +47,8 @@ fn answer(
     octets
 }
 
-/// What a step of A came to: the child that it made of a response, the association that this closed, and what was declined.
+/// What a step of A came to: the child that it made of a response, the IKE SA that this closed, and what was
+/// declined.
 type Counted = (Option<u32>, Option<u32>, Option<u16>);
 
 fn counted(traced: Traced<'_>) -> Option<Counted> {
@@ -68,12 +69,12 @@ fn taken(
     counted(a.traced_step(alloc, &input.lend()))
 }
 
-/// Two ends that hold an association and its first child.
+/// Two ends that hold an IKE SA and its first child.
 fn connected(rt: &impl Abort, alloc: Global) -> Both {
     Both::connected(alloc, false).expect(rt, "two ends")
 }
 
-/// What becomes of what A asks under its first association, where B answers it by these payloads.
+/// What becomes of what A asks under its first IKE SA, where B answers it by these payloads.
 fn answered(
     rt: &impl Abort,
     alloc: Global,
@@ -88,7 +89,8 @@ fn answered(
     taken(rt, alloc, &mut both.a, &octets)
 }
 
-/// Finds what is declined by a notice of these types, one behind the other, in the answer for a further child.
+/// Finds what is declined by a notice of these types, one behind the other, in the answer for an additional
+/// Child SA.
 fn declines(
     rt: &impl Abort,
     alloc: Global,
@@ -114,7 +116,7 @@ fn a_further_child_is_declined(rt: HostRuntime) {
     }
 }
 
-/// INVALID_SYNTAX closes the association.
+/// INVALID_SYNTAX closes the IKE SA.
 #[test]
 fn a_further_child_is_told_bad_syntax(rt: HostRuntime) {
     let payload = notice(NONE, [0, 7]);
@@ -215,7 +217,7 @@ fn a_first_child_is_made(rt: HostRuntime) {
     same(&rt, found, Some((Some(1), None, None)));
 }
 
-/// B protects nothing of it: TS_UNACCEPTABLE, and the association stands.
+/// B protects nothing of it: TS_UNACCEPTABLE, and the IKE SA stands.
 #[test]
 fn a_first_child_is_declined(rt: HostRuntime) {
     let found = authenticated(&rt, rt.alloc(), End::B, End::A);

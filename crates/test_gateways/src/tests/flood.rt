@@ -62,7 +62,7 @@ fn refusal(gateway: &mut Gateway<ScriptCaller>, alloc: Global, input: OwnedInput
     }
 }
 
-// Zero, and one that is in use: of an order, and of a request that would make an association.
+// Zero, and one that is in use: of an order, and of a request that would make an IKE SA.
 #[test]
 fn bad_fresh_spis(rt: HostRuntime) {
     let mut gateway = gateway(rt.alloc(), End::A).expect(&rt, "a gateway");

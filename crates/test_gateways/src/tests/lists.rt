@@ -26,7 +26,7 @@ fn delivery(rt: &impl Abort, alloc: Global, world: &World<ScriptCaller>, place: 
     OwnedEvent { end, input }
 }
 
-/// What happens where an association is made: A's order, and so many deliveries of what was sent before.
+/// What happens where an IKE SA is made: A's order, and so many deliveries of what was sent before.
 fn events(
     rt: &impl Abort,
     alloc: Global,

@@ -7,7 +7,7 @@ use std::panic::Expect;
 use std::process::Abort;
 use test_samples::{gateway, order};
 
-/// A, which asks for an association at a moment.
+/// A, which asks for an IKE SA at a moment.
 fn asking(rt: &impl Abort, alloc: Global, moment: u64) -> Gateway<ScriptCaller> {
     let mut gateway = gateway(alloc, End::A).expect(rt, "a gateway");
     gateway.step(alloc, &Input::Tick { moment });
@@ -45,7 +45,7 @@ fn a_request_is_due_again_after_a_second(rt: HostRuntime) {
         (8000, Some(16_000)),
         (16_000, Some(32_000)),
         (32_000, Some(48_000)),
-        // The association has failed, and is held for two minutes more.
+        // The IKE SA has failed, and is held for two minutes more.
         (48_000, Some(168_000)),
         (168_000, None),
     ];

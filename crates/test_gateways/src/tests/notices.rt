@@ -1,4 +1,4 @@
-//! Requests of IKE_AUTH, made by hand, that close their association (RFC 7296, sections 2.21.2 and 3.10.1).
+//! Requests of IKE_AUTH, made by hand, that close their IKE SA (RFC 7296, sections 2.21.2 and 3.10.1).
 use super::asserts::{add, hex, same};
 use caller_script::ScriptCaller;
 use gateway::{End, Gateway, Output};
@@ -32,7 +32,7 @@ fn key(rt: &impl Abort, gateway: &Gateway<ScriptCaller>) -> [u8; 32] {
     gateway.keys_of(1).expect(rt, "keys").sk_ai
 }
 
-/// What B answers to such a request of IKE_AUTH by which it closes the association.
+/// What B answers to such a request of IKE_AUTH by which it closes the IKE SA.
 fn closing(rt: &impl Abort, alloc: Global, digits: &str) -> Vec<u8> {
     let mut gateway = half_open(rt, alloc);
     let octets = sealed(rt, alloc, digits, &key(rt, &gateway));

@@ -57,7 +57,7 @@ fn the_order_of_what_is_judged(rt: HostRuntime) -> Result<(), Fail> {
         verdict_on(alloc, UNKNOWN, &[0, 0x80, 0])?,
         Verdict::BadSyntax
     );
-    // A payload that is not known comes before the limit, and before the end of the association.
+    // A payload that is not known comes before the limit, and before the end of the IKE SA.
     let mut octets = deletions(alloc, 513, UNKNOWN)?;
     octets.extend_from_slice(&CRITICAL)?;
     assert_eq!(rt;

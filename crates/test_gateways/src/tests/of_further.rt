@@ -93,7 +93,7 @@ fn nonce(rt: &impl Abort, alloc: Global) -> Payload {
     Payload::Nonce(octets(rt, alloc, &[9; 32]))
 }
 
-// The four payloads that make a further child.
+// The four payloads that make an additional Child SA.
 fn message(rt: &impl Abort, alloc: Global, protocol: u8) -> Items<Payload> {
     message_between(rt, alloc, protocol, near(), far())
 }

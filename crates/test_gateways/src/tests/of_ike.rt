@@ -95,7 +95,7 @@ impl Side {
         sent(rt, self.take(rt, alloc, octets, spi))
     }
 
-    /// The key of what the initiator of the first association sends.
+    /// The key of what the initiator of the first IKE SA sends.
     fn key(&self, rt: &impl Abort) -> [u8; 32] {
         self.ike.keys_of(1).expect(rt, "keys").sk_ai
     }
@@ -117,7 +117,7 @@ fn dropped(output: IkeOutput) -> Option<MessageFault> {
     }
 }
 
-/// Whether a request is answered, and its association stays.
+/// Whether a request is answered, and its IKE SA stays.
 fn is_answered(output: IkeOutput) -> bool {
     matches!(output, IkeOutput::Reply { closed: None, .. })
 }
@@ -127,7 +127,8 @@ fn is_repeated(output: IkeOutput) -> bool {
     matches!(output, IkeOutput::Repeat(_))
 }
 
-/// One more association between both ends, under this SPI of A's and the next one of B's: IKE_SA_INIT and IKE_AUTH.
+/// One more IKE SA between both ends, under this SPI of A's and the next one of B's: IKE_SA_INIT and
+/// IKE_AUTH.
 fn agree(rt: &impl Abort, alloc: Global, a: &mut Side, b: &mut Side, spi: u64) {
     let fresh = fresh(spi);
     let order = IkeInput::Start {
@@ -142,7 +143,7 @@ fn agree(rt: &impl Abort, alloc: Global, a: &mut Side, b: &mut Side, spi: u64) {
     a.take(rt, alloc, last.as_slice(), 92);
 }
 
-/// A, which has two associations with B.
+/// A, which has two IKE SAs with B.
 fn agreed_twice(rt: &impl Abort, alloc: Global, b: &mut Side) -> Side {
     let mut a = Side::new(rt, alloc, End::A);
     agree(rt, alloc, &mut a, b, 1);
@@ -218,7 +219,7 @@ fn numbers_near_the_end(rt: HostRuntime) {
     }
 }
 
-/// The SPIs of association 1, written over those of another that has 3 and 4.
+/// The SPIs of IKE SA 1, written over those of another that has 3 and 4.
 fn with_foreign_spis(rt: &impl Abort, alloc: Global, octets: &[u8]) -> Vec<u8> {
     let mut foreign = Vec::new(alloc);
     add(rt, &mut foreign, octets);
@@ -230,7 +231,7 @@ fn with_foreign_spis(rt: &impl Abort, alloc: Global, octets: &[u8]) -> Vec<u8> {
     foreign
 }
 
-/// A's probe under its second association.
+/// A's probe under its second IKE SA.
 fn probe(rt: &impl Abort, alloc: Global, a: &mut Side) -> Items<u8> {
     let fresh = fresh(30);
     let probe = IkeInput::Probe {
@@ -240,7 +241,7 @@ fn probe(rt: &impl Abort, alloc: Global, a: &mut Side) -> Items<u8> {
     sent(rt, a.step(rt, alloc, &probe))
 }
 
-/// Requests of one association, of the number that is expected, with the SPIs of another written over them.
+/// Requests of one IKE SA, of the number that is expected, with the SPIs of another written over them.
 #[test]
 fn foreign_spis(rt: HostRuntime) {
     let alloc = rt.alloc();

@@ -19,7 +19,7 @@ fn one_order_at_two_new_gateways_comes_to_one_output(rt: HostRuntime) {
     let input = order(1);
     let output = one.step(rt.alloc(), &input.lend());
     same(&rt, output == other.step(rt.alloc(), &input.lend()), true);
-    // Another association has another SPI and another serial.
+    // Another IKE SA has another SPI and another serial.
     let later = order(2);
     same(&rt, output == other.step(rt.alloc(), &later.lend()), false);
 }
@@ -44,7 +44,7 @@ fn packets_read_as_lines(rt: HostRuntime) {
     let mut both = Both::connected(rt.alloc(), true).expect(&rt, "two gateways");
     let packet = inner(7);
     let sealed = both.a.step(rt.alloc(), &Input::Outward { packet: &packet });
-    // 8 octets before the payload, 20 of it, 2 of padding with 2 behind, 16 of the check value.
+    // 8 octets before the payload, 20 of it, 2 of padding with 2 behind, 16 of the ICV.
     reads(
         &rt,
         rt.alloc(),

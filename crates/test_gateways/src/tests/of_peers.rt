@@ -89,7 +89,7 @@ fn delivery(rt: &impl Abort, alloc: Global, world: &World<PeerCaller>, place: u6
     message(alloc, octets, place.saturating_add(10)).expect(rt, "memory")
 }
 
-/// Begins an association, and delivers the four datagrams that make it.
+/// Begins an IKE SA, and delivers the four datagrams that make it.
 fn begin(rt: &impl Abort, alloc: Global, world: &mut World<PeerCaller>) {
     happens(rt, alloc, world, End::A, order(1));
     for (place, end) in (1..).zip([End::B, End::A, End::B, End::A]) {
@@ -98,9 +98,10 @@ fn begin(rt: &impl Abort, alloc: Global, world: &mut World<PeerCaller>) {
     }
 }
 
-// The first two messages have a length that the RFC tells: a header of 28 octets, an SA of 48 with the key's length as an attribute, a
-// key exchange of 8 and 256, and a nonce of 4 and 32 (RFC 7296, sections 3.1, 3.3, 3.4 and 3.9). An encrypted payload ends with whole
-// blocks and a check value: 28, 4, a vector of 16, blocks of 16, and 16.
+// The first two messages have a length that the RFC tells: a header of 28 octets, an SA of 48 with the key's
+// length as an attribute, a key exchange of 8 and 256, and a nonce of 4 and 32 (RFC 7296, sections 3.1, 3.3,
+// 3.4 and 3.9). An encrypted payload ends with whole blocks and an ICV: 28, 4, a vector of 16, blocks of 16,
+// and 16.
 fn are_sent(rt: &impl Abort, datagrams: &[Datagram]) {
     same(rt, datagrams.len(), 4);
     for datagram in datagrams.iter().take(2) {
@@ -166,7 +167,7 @@ fn packets_go_both_ways_once(rt: HostRuntime) {
     crosses(&rt, rt.alloc(), &mut world, End::B, 6);
 }
 
-// B takes A for another: the association comes to keys, and to no child.
+// B takes A for another: the IKE SA comes to keys, and to no child.
 #[test]
 fn another_secret_proves_nothing(rt: HostRuntime) {
     let mut world = world(&rt, rt.alloc(), b"secret of c");

@@ -190,7 +190,7 @@ fn no_part(rt: HostRuntime) {
     same(&rt, hmac(b"Jefe", &[]), hmac(b"Jefe", &[b""]));
 }
 
-// The check value is the same under the key and under the prepared key, in one part and in several.
+// The ICV is the same under the key and under the prepared key, in one part and in several.
 fn expect_check(rt: &impl Abort, data: &[u8], value: [u8; 16]) {
     let key = IcvKey::new(&[0x0b; 32]);
     let (front, rest) = data.split_at(data.len() / 3);

@@ -1,4 +1,4 @@
-//! What comes with time: requests go out again, and associations end (RFC 7296, sections 2.1 and 2.4).
+//! What comes with time: requests go out again, and IKE SAs end (RFC 7296, sections 2.1 and 2.4).
 ghost use Rattle.std.specs.Prelude.{All};
 ghost use Rattle.std.specs.Bool.{OnTrue};
 ghost use Rattle.association.specs.Closing.{HoldsNoSpi};
@@ -44,7 +44,7 @@ fn timer(sent: u64, repeats: u8) -> Timer {
     Timer { sent, repeats }
 }
 
-/// An association in a phase, which waits for no answer.
+/// An IKE SA in a phase, which waits for no answer.
 fn association(alloc: Global, serial: u32, phase: Phase) -> Association {
     let mut outgoing = Outgoing::new(alloc);
     outgoing.set_window(16);
@@ -75,7 +75,7 @@ fn issue(
     });
 }
 
-/// Established associations, the first with these requests under way.
+/// Established IKE SAs, the first with these requests under way.
 fn established(rt: &impl Abort, alloc: Global, timers: &[Timer]) -> Vec<Association> {
     let mut first = association(alloc, 1, Phase::Established(keys()));
     for timer in timers {
@@ -98,7 +98,7 @@ fn none_waits_for_child(associations: &[Association]) -> bool
     true
 }
 
-/// What a moment brings to associations without SPIs for a child.
+/// What a moment brings to IKE SAs without SPIs for a child.
 fn told(
     rt: &impl Abort,
     alloc: Global,
@@ -112,7 +112,7 @@ fn told(
     Some(tick(alloc, associations, &mut table, now).expect(rt, "memory"))
 }
 
-/// How many requests go out again, how many associations are closed, and how many are held then.
+/// How many requests go out again, how many IKE SAs are closed, and how many are held then.
 fn counted(
     rt: &impl Abort,
     alloc: Global,
@@ -179,7 +179,7 @@ fn one_that_fails_sends_nothing(rt: HostRuntime) {
     );
 }
 
-/// One association in a phase.
+/// One IKE SA in a phase.
 fn alone(rt: &impl Abort, alloc: Global, phase: Phase) -> Vec<Association> {
     let mut all = Vec::new(alloc);
     all.push(association(alloc, 1, phase)).expect(rt, "memory");
@@ -241,7 +241,8 @@ fn sent(rt: &impl Abort, alloc: Global, ticked: &Ticked) -> Vec<Again> {
     sent
 }
 
-/// Two associations, the first with three requests under way, of which two are due, the second with its first message.
+/// Two IKE SAs, the first with three requests under way, of which two are due, the second with its first
+/// message.
 fn both(rt: &impl Abort, alloc: Global) -> Vec<Association> {
     let mut all = established(rt, alloc, &[timer(0, 0), timer(500, 0), timer(0, 0)]);
     let mut other = association(alloc, 2, Phase::Established(keys()));

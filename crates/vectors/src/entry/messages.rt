@@ -11,7 +11,7 @@ const EMPTY: [u8; 28] = [
     1, 2, 3, 4, 5, 6, 7, 8, 0, 0, 0, 0, 0, 0, 0, 0, 0, 0x20, 0x22, 8, 0, 0, 0, 0, 0, 0, 0, 28,
 ];
 
-// An SA payload that offers SPI 256 of ESP without extended numbers.
+// An SA payload that offers SPI 256 of ESP without ESN.
 const ESP_OFFER: [u8; 40] = [
     0, 0, 0, 0x28, 0, 0, 0, 0x24, 1, 3, 4, 3, 0, 0, 1, 0, 3, 0, 0, 8, 1, 0, 0, 11, 3, 0, 0, 8, 3,
     0, 0, 12, 0, 0, 0, 8, 5, 0, 0, 0,
@@ -120,7 +120,7 @@ fn numbered(number: u8) -> [u8; 40] {
     octets
 }
 
-// What was read, or why not; want of memory apart.
+// What was read, or why not; allocation failures apart.
 fn read<T>(read: Result<T, WireFault>) -> Result<Result<T, WireFault>, AllocError> {
     match read {
         Err(WireFault::Memory) => Err(AllocError),

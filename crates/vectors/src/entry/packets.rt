@@ -1,4 +1,4 @@
-//! Packets of one association of SPI 256: sealed, opened, refused (RFC 4303, sections 2 and 3).
+//! Packets of one SA of SPI 256: sealed, opened, refused (RFC 4303, sections 2 and 3).
 ghost use Rattle.std.specs.Prelude.{◌≡◌, ◌≤◌, ◌↔◌, IsTrue, length, take};
 ghost use Rattle.byteorder.specs.Endian.{big_bytes};
 
@@ -18,7 +18,7 @@ const INNER: [u8; 20] = [
     0x45, 0, 0, 20, 0, 0, 0, 0, 0x40, 1, 0, 0, 10, 0, 0, 1, 10, 1, 0, 1,
 ];
 
-// As far as the check value, the packet of number 1 that carries it: SPI, number, packet, padding, its
+// As far as the ICV, the packet of number 1 that carries it: SPI, number, packet, padding, its
 // length, next header.
 const SEALED: [u8; 32] = [
     0, 0, 1, 0, 0, 0, 0, 1, 0x45, 0, 0, 20, 0, 0, 0, 0, 0x40, 1, 0, 0, 10, 0, 0, 1, 10, 1, 0, 1, 1,
@@ -80,7 +80,7 @@ enum Opening {
     Up(u64),
     // It is refused.
     Refused(EspFault),
-    // It carries something else, or is for another association.
+    // It carries something else, or is for another SA.
     Other,
 }
 
@@ -128,7 +128,7 @@ fn has_size(alloc: Global, row: usize) -> Result<bool, AllocError> {
     };
     let payload = vec![in alloc; 0x5a; *octets]?;
     match sealed(alloc, &payload, false, 0)? {
-        // Before the check value stand the padding's length and the next header.
+        // Before the ICV stand the padding's length and the next header.
         Ok(packet) => Ok(packet.len() == *size && packet.get(size.saturating_sub(18)) == Some(pad)),
         Err(_) => Ok(false),
     }
@@ -167,7 +167,7 @@ fn is_damaged(alloc: Global) -> Result<bool, AllocError> {
     )
 }
 
-// A packet of this low half, with these octets up to the next header and a right check value over them.
+// A packet of this low half, with these octets up to the next header and a right ICV over them.
 fn signed(alloc: Global, low: u32, contents: &[u8]) -> Result<Vec<u8>, AllocError> {
     let mut packet = Vec::with_capacity(alloc, contents.len().saturating_add(24))?;
     packet.extend_from_slice(&SPI.to_be_bytes())?;
@@ -198,7 +198,7 @@ fn is_exhausted(alloc: Global) -> Result<bool, AllocError> {
     Ok(sealed(alloc, &INNER, false, 0xffff_ffff)? == Err(EspFault::Exhausted))
 }
 
-// With extended numbers a new receiver recovers none from the low half 0 of 2^32.
+// With ESN a new receiver recovers none from the low half 0 of 2^32.
 fn is_not_recovered(alloc: Global) -> Result<bool, AllocError> {
     let mut receiver = Receiver::new(alloc, true)?;
     let Ok(packet) = sealed(alloc, &INNER, true, 0xffff_ffff)? else {

@@ -113,7 +113,7 @@ fn sealed(alloc: Global, message: &Message) -> Result<Vec<u8>, WireFault> {
 // RFC 7296, sections 3.1 and 3.14: header and encrypted payload of an empty INFORMATIONAL request, number 2.
 #[test]
 fn seals_no_payload(rt: HostRuntime) {
-    // The check value is that of Python's module `hmac`.
+    // The ICV is that of Python's module `hmac`.
     let wanted: [u8; 49] = [
         0, 0, 0, 0, 0, 0, 0, 1, 0, 0, 0, 0, 0, 0, 0, 2, 46, 32, 37, 8, 0, 0, 0, 2, 0, 0, 0, 49, 0,
         0, 0, 21, 0x00, 0x96, 0x5e, 0xed, 0xb0, 0x3f, 0xc4, 0x16, 0x47, 0xea, 0xdc, 0x39, 0x2e,

@@ -3,7 +3,7 @@ use Rattle.requests.specs.Outgoing.{IssuesRequest, OwnRequests}
 use Rattle.association.specs.declared.phase.Request.{Request}
 use Rattle.association.proofs.issuing.issued.Goals as goal
 
--- Making room changes no number.
+-- Making room changes no Message ID.
 pub returns-in-Ok : goal.returns-in-Ok
 returns-in-Ok c =
     record {

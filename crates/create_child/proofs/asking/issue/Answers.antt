@@ -6,7 +6,7 @@ use Rattle.association.specs.declared.purpose.Purpose.TheVariants.{CreateChild}
 use Rattle.association.specs.Issuing.{new_request}
 use Rattle.create_child.proofs.asking.issue.Goals as goal
 
--- Making room changes no number.
+-- Making room changes no Message ID.
 pub returns-in-Ok-clause-issued : goal.returns-in-Ok-clause-issued
 returns-in-Ok-clause-issued c = record {
   spi = c.reserve.result;

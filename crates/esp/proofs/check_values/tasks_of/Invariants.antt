@@ -3,7 +3,7 @@ use Rattle.lanes.specs.Task.{icv_of}
 use Rattle.esp.specs.Laying.{AreHighHalves, covered_sizes, packets_size, values_in}
 use Rattle.esp.proofs.check_values.tasks_of.Given as goal
 
--- the tasks so far ask for the first check values, and the others are those of the packets that are left
+-- the tasks so far ask for the first ICVs, and the others are those of the packets that are left
 abbrev pub invariant-loop-place : goal.invariant-loop-place
 invariant-loop-place l = record {
   asked : (last : ℕ) → AreHighHalves last (length l.payloads) l.halves

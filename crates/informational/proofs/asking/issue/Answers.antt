@@ -3,7 +3,7 @@ use Rattle.requests.specs.Outgoing.{IssuesRequest, OwnRequests}
 use Rattle.association.specs.declared.phase.Request.{Request}
 use Rattle.informational.proofs.asking.issue.Goals as goal
 
--- Making room changes no number.
+-- Making room changes no Message ID.
 pub returns-in-Ok-clause-issued : goal.returns-in-Ok-clause-issued
 returns-in-Ok-clause-issued c =
     record {

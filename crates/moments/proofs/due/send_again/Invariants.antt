@@ -1,4 +1,4 @@
--- those up to the last number are as they are after the moment
+-- those up to the last Message ID are as they are after the tick
 use Rattle.moments.proofs.DueLemmas.{numbers_left, SendsUpTo}
 use Rattle.moments.proofs.due.send_again.Given as goal
 

@@ -1,4 +1,4 @@
--- none of those gone through is due before the first moment found
+-- none of those gone through is due before the first time found
 use Rattle.requests.specs.Outstanding.{requests_left}
 use Rattle.moments.proofs.NextLemmas.{WalkedTo}
 use Rattle.moments.proofs.next.next_request.Given as goal

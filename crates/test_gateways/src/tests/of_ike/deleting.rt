@@ -91,7 +91,7 @@ fn named_twice(rt: HostRuntime) {
     holds(&rt, b.table.after(0).is_none());
 }
 
-/// Under one association the child of another is not deleted.
+/// Under one IKE SA the child of another is not deleted.
 #[test]
 fn of_another_association(rt: HostRuntime) {
     let alloc = rt.alloc();

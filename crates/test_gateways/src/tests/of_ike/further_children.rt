@@ -1,4 +1,4 @@
-//! Further children that no script asks for (RFC 7296, sections 1.3.1, 2.5, 2.21.3 and 3.10.1).
+//! Additional Child SAs that no script asks for (RFC 7296, sections 1.3.1, 2.5, 2.21.3 and 3.10.1).
 use super::sealing::{CREATE_CHILD, INVALID_SYNTAX, NOTIFY, Sent, asked, counted};
 use super::{Side, established, established_with, sent};
 use crate::tests::asserts::{add, holds, same};
@@ -58,7 +58,7 @@ fn add_nonce(rt: &impl Abort, octets: &mut Vec<u8>) {
     add(rt, octets, &[5; 32]);
 }
 
-/// What a request for a further child has to say, with an offer of this protocol.
+/// What a request for an additional Child SA has to say, with an offer of this protocol.
 fn request(rt: &impl Abort, alloc: Global, protocol: u8) -> Vec<u8> {
     let mut octets = Vec::new(alloc);
     add_offer(rt, &mut octets, NONCE, protocol);
@@ -121,7 +121,7 @@ fn a_request_with_a_key_exchange(rt: HostRuntime) {
     same(&rt, outcome, (Some((57, false)), true, None));
 }
 
-/// An IKE association in the place of this one is declined.
+/// An IKE SA in the place of this one is declined.
 #[test]
 fn a_request_for_an_association(rt: HostRuntime) {
     let payloads = request(&rt, rt.alloc(), IKE);
@@ -137,7 +137,7 @@ fn a_request_without_its_nonce(rt: HostRuntime) {
     same(&rt, outcome, (Some((57, true)), false, None));
 }
 
-/// B asks for a further child under its first association, as its first request.
+/// B asks for an additional Child SA under its first IKE SA, as its first request.
 fn ask(rt: &impl Abort, alloc: Global, b: &mut Side) -> Items<u8> {
     let fresh = fresh(50);
     let order = IkeInput::Start {
@@ -148,7 +148,7 @@ fn ask(rt: &impl Abort, alloc: Global, b: &mut Side) -> Items<u8> {
     sent(rt, b.step(rt, alloc, &order))
 }
 
-/// Why B refuses to ask for a further child.
+/// Why B refuses to ask for an additional Child SA.
 fn refusal(alloc: Global, b: &mut Side) -> Option<IkeFault> {
     let fresh = fresh(50);
     let order = IkeInput::Start {
@@ -226,7 +226,7 @@ fn answer(rt: &impl Abort, alloc: Global, selectors: &[u8]) -> Vec<u8> {
     octets
 }
 
-/// B with 1024 children, as many as a table takes, of which the first came with the association.
+/// B with 1024 children, as many as a table takes, of which the first came with the IKE SA.
 fn filled(rt: &impl Abort, alloc: Global) -> Side {
     let mut b = established(rt, alloc);
     let payloads = request(rt, alloc, ESP);
@@ -237,7 +237,7 @@ fn filled(rt: &impl Abort, alloc: Global) -> Side {
     b
 }
 
-/// Whether B declines a request of this number for a further child.
+/// Whether B declines a request of this number for an additional Child SA.
 fn declines(rt: &impl Abort, alloc: Global, b: &mut Side, number: u32) -> bool {
     let payloads = request(rt, alloc, ESP);
     asked(rt, alloc, b, offer(number), &payloads) == Some((57, false))

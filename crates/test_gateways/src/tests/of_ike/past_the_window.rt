@@ -40,7 +40,7 @@ fn code(output: &IkeOutput) -> Option<u8> {
     }
 }
 
-/// The octets of an answer that leaves the association open.
+/// The octets of an answer that leaves the IKE SA open.
 fn answer(rt: &impl Abort, output: IkeOutput) -> Items<u8> {
     match output {
         IkeOutput::Reply {
@@ -59,7 +59,7 @@ fn is_answered_so(rt: &impl Abort, alloc: Global, b: &mut Side, number: u32) {
     same(rt, found.as_slice(), wanted.as_slice());
 }
 
-/// What can be seen of an end without a message: how many associations it holds, and its next moment.
+/// What can be seen of an end without a message: how many IKE SAs it holds, and its next moment.
 fn seen(b: &Side) -> (usize, Option<u64>) {
     (b.ike.associations().len(), b.ike.next_moment())
 }

@@ -13,7 +13,7 @@ pub const CREATE_CHILD: u8 = 36;
 /// The exchange INFORMATIONAL.
 pub const INFORMATIONAL: u8 = 37;
 
-/// The flag of what the initiator of the association sends.
+/// The flag of what the initiator of the IKE SA sends.
 const INITIATOR: u8 = 0x08;
 
 /// The flag of a response.
@@ -66,7 +66,7 @@ pub struct Sent {
     pub first: u8,
 }
 
-/// How many octets of B answer A's request with these payloads, and whether the association is closed by it.
+/// How many octets of B answer A's request with these payloads, and whether the IKE SA is closed by it.
 pub fn asked(
     rt: &impl Abort,
     alloc: Global,
@@ -82,7 +82,8 @@ pub fn asked(
     }
 }
 
-/// The child that B makes of A's response with these payloads, where it counts it, and whether the association is closed by it.
+/// The child that B makes of A's response with these payloads, where it counts it, and whether the IKE SA is
+/// closed by it.
 pub fn counted(
     rt: &impl Abort,
     alloc: Global,

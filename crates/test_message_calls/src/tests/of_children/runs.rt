@@ -121,7 +121,7 @@ fn cross(
     same(rt, open(rt, to, to_spi, &packet), b"abc".as_slice());
 }
 
-/// Makes a child with numbers extended or not, which the check values tell, and sends a packet each way.
+/// Makes a child with numbers extended or not, which the ICVs tell, and sends a packet each way.
 fn cross_both_ways(rt: &impl Abort, alloc: Global, extended: bool) {
     let mut ends = Ends::new(alloc);
     connect(rt, alloc, &mut ends, extended);

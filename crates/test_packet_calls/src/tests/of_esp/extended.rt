@@ -1,11 +1,11 @@
-//! Numbers of 64 bits. The expected check values are those that Python's module `hmac` computes.
+//! Numbers of 64 bits. The expected ICVs are those that Python's module `hmac` computes.
 use super::fixture::{Receiver, extended_sender, first, packet, sealed};
 use crate::tests::asserts::{granted, same, same_at};
 use esp::EspFault;
 use std::alloc::Global;
 use std::process::Abort;
 
-/// Finds that the packets under these numbers send this low half and have this check value.
+/// Finds that the packets under these numbers send this low half and have this ICV.
 fn covers(rt: &impl Abort, alloc: Global, rows: &[(u64, [u8; 4], [u8; 16])]) {
     for (number, low, check) in rows {
         let sender = extended_sender(number.wrapping_sub(1));
@@ -18,7 +18,7 @@ fn covers(rt: &impl Abort, alloc: Global, rows: &[(u64, [u8; 4], [u8; 16])]) {
     }
 }
 
-/// The numbers of packets, and their low halves and check values.
+/// The numbers of packets, and their low halves and ICVs.
 fn covered() -> [(u64, [u8; 4], [u8; 16]); 5] {
     [
         (
@@ -64,7 +64,7 @@ fn covered() -> [(u64, [u8; 4], [u8; 16]); 5] {
     ]
 }
 
-// The high half is covered and not sent, so packets whose low halves agree differ in their check value alone.
+// The high half is covered and not sent, so packets whose low halves agree differ in their ICV alone.
 #[test]
 fn covers_the_high_half(rt: HostRuntime) {
     covers(&rt, rt.alloc(), &covered());
@@ -107,13 +107,13 @@ fn crosses_32_bits(rt: HostRuntime) {
     receiver.refuses(&rt, &below, EspFault::BadIcv);
 }
 
-/// Finds that a check value over a high half is wrong under the low half 1.
+/// Finds that an ICV over a high half is wrong under the low half 1.
 fn is_wrong(rt: &impl Abort, alloc: Global, receiver: &mut Receiver, half: &[u8]) {
     let wrong = granted(rt, packet(alloc, 1, &[1, 2, 2, 4], half));
     receiver.refuses(rt, &wrong, EspFault::BadIcv);
 }
 
-// The low half 1 stands for 2^32 + 1 there, so a check value for the number 1 is wrong.
+// The low half 1 stands for 2^32 + 1 there, so an ICV for the number 1 is wrong.
 #[test]
 fn checks_the_recovered_number(rt: HostRuntime) {
     let alloc = rt.alloc();

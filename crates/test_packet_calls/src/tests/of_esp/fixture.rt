@@ -1,4 +1,4 @@
-//! What the tests share: one association of SPI 256 under a key of 32 octets 0b.
+//! What the tests share: one SA of SPI 256 under a key of 32 octets 0b.
 ghost use Rattle.std.specs.Prelude.{◌≡◌, ◌≤◌, IsTrue, ◌↔◌, All, length, take};
 ghost use Rattle.byteorder.specs.Endian.{big_bytes};
 
@@ -123,8 +123,8 @@ pub fn slices(alloc: Global, packets: &[Vec<u8>]) -> Result<Vec<&[u8]>, AllocErr
     Ok(slices)
 }
 
-/// A packet of the SPI with this low half and these octets up to the next header. Its check value is right over them and
-/// the half of the number that is not sent.
+/// A packet of the SPI with this low half and these octets up to the next header. Its ICV is right over them
+/// and the half of the number that is not sent.
 pub fn packet(
     alloc: Global,
     low: u32,

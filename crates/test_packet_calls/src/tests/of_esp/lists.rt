@@ -89,7 +89,7 @@ fn answers_no_packet(rt: HostRuntime) {
     holds(&rt, out.is_empty());
 }
 
-// A list is opened where the one before it left the association.
+// A list is opened where the one before it left the SA.
 #[test]
 fn goes_on_with_the_next_list(rt: HostRuntime) {
     let alloc = rt.alloc();

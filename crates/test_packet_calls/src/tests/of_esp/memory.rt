@@ -1,5 +1,5 @@
-//! Runs that pass whether an allocation fails or not: what was refused for want of memory left everything as it was. Each is
-//! to be run with every allocation failing in turn.
+//! Runs that pass whether an allocation fails or not: what was refused on allocation failure left everything
+//! as it was. Each is to be run with every allocation failing in turn.
 use super::fixture::{IPV4, Receiver, damaged, first, inner, packet, sender, slices};
 use crate::tests::asserts::{holds, same};
 use esp::{EspFault, Opened};

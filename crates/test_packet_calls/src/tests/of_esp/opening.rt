@@ -111,7 +111,7 @@ fn refuses_padding(rt: &impl Abort, alloc: Global, receiver: &mut Receiver, case
     }
 }
 
-// Each stands under a right check value, so its number stays taken.
+// Each stands under a right ICV, so its number stays taken.
 #[test]
 fn refuses_bad_padding_and_keeps_the_number(rt: HostRuntime) {
     let mut receiver = Receiver::new(rt.alloc(), false);
@@ -177,7 +177,8 @@ fn refuses_damaged(
     }
 }
 
-// Octets of the number, the payload, the padding, its length, the next header and the check value. Number 8 becomes 9.
+// Octets of the number, the payload, the padding, its length, the next header and the ICV. Number 8 becomes
+// 9.
 #[test]
 fn refuses_each_damaged_octet(rt: HostRuntime) {
     let mut receiver = Receiver::new(rt.alloc(), false);
@@ -191,7 +192,8 @@ fn refuses_each_damaged_octet(rt: HostRuntime) {
 /// The contents of a packet whose padding is wrong.
 const BAD: [u8; 4] = [0, 0, 2, 4];
 
-/// Finds how such packets are refused where their check value is wrong, too, and that an octet more makes their length wrong.
+/// Finds how such packets are refused where their ICV is wrong, too, and that an octet more makes their
+/// length wrong.
 fn refuses_wrong(
     rt: &impl Abort,
     alloc: Global,
@@ -212,7 +214,7 @@ fn refuses_wrong(
     }
 }
 
-/// Finds how such packets are refused where their check value is right.
+/// Finds how such packets are refused where their ICV is right.
 fn refuses_right(
     rt: &impl Abort,
     alloc: Global,

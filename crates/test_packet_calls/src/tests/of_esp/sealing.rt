@@ -1,4 +1,4 @@
-//! What is sealed. The expected check values are those that Python's module `hmac` computes.
+//! What is sealed. The expected ICVs are those that Python's module `hmac` computes.
 use super::fixture::{IPV4, extended_sender, first, inner, sealed, sender};
 use crate::tests::asserts::{granted, holds, same, same_at};
 use esp::{EspFault, Outbound};
@@ -42,7 +42,7 @@ fn pads(rt: &impl Abort, alloc: Global, rows: &[(usize, usize, &[u8])]) {
     }
 }
 
-// Payloads of octets 5a under every remainder by four, and the longest: their trailer and check value.
+// Payloads of octets 5a under every remainder by four, and the longest: their trailer and ICV.
 #[test]
 fn pads_with_the_least_padding(rt: HostRuntime) {
     let cases: [(usize, usize, &[u8]); 6] = [

@@ -1,5 +1,5 @@
-//! Runs that pass whether an allocation fails or not: what was refused for want of memory left everything as it was. Each is to
-//! be run with every allocation failing in turn.
+//! Runs that pass whether an allocation fails or not: what was refused on allocation failure left everything
+//! as it was. Each is to be run with every allocation failing in turn.
 use super::fixture::{accept, issue};
 use crate::tests::asserts::{holds_at, same};
 use requests::{Incoming, Judgement, Outgoing, RequestFault};

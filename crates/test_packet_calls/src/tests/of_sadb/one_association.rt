@@ -1,4 +1,4 @@
-//! The pairs of one IKE association: found one after the other, by what they send under, and removed together.
+//! The pairs of one IKE SA: found one after the other, by what they send under, and removed together.
 use super::fixture::{KEY, PEER_KEY, START, here, install, receiver, reserve};
 use crate::tests::asserts::{granted, same};
 use base::Items;
@@ -7,7 +7,7 @@ use sadb::{Pair, Table};
 use std::alloc::Global;
 use std::process::Abort;
 
-/// Adds a pair of an IKE association that sends under an SPI.
+/// Adds a pair of an IKE SA that sends under an SPI.
 fn add(rt: &impl Abort, alloc: Global, table: &mut Table, ike: u32, outbound: u32) -> u32 {
     let spi = reserve(table).expect(rt, "an SPI");
     let inbound = receiver(alloc, spi.number(), &KEY).expect(rt, "memory");
@@ -18,7 +18,7 @@ fn add(rt: &impl Abort, alloc: Global, table: &mut Table, ike: u32, outbound: u3
     install(table, spi, pair)
 }
 
-/// A table with four pairs of two IKE associations, and what each sends under.
+/// A table with four pairs of two IKE SAs, and what each sends under.
 fn filled(rt: &impl Abort, alloc: Global) -> Table {
     let mut table = Table::new(alloc, START);
     for (ike, outbound) in [(7, 1000), (8, 1000), (7, 2000), (7, 1000)] {

@@ -34,7 +34,7 @@ const ESP: Wanted = Wanted::Esp { extended: false };
 
 const ESP_EXTENDED: Wanted = Wanted::Esp { extended: true };
 
-// What is chosen of the first proposal, of number 1, without extended numbers and with them.
+// What is chosen of the first proposal, of number 1, without ESN and with it.
 const FIRST: Option<Chosen> = Some(Chosen {
     place: 0,
     number: 1,
@@ -140,7 +140,7 @@ enum Offer {
     /// Those of IKE; the one at this place has one attribute or two.
     Ike(usize, (u16, u16)),
     IkeWithTwo(usize, [(u16, u16); 2]),
-    /// The first of those of IKE and one of extended numbers, so many.
+    /// The first of those of IKE and one of ESN, so many.
     FirstOfIke(usize),
     AnotherPrf,
     /// Several of some types, of which the second has a key of 256 bits.
@@ -263,7 +263,7 @@ const ROWS_OF_ESP: [Row; 13] = [
     (Offer::FirstOfEsp(4), ESP, None),
     (Offer::FirstOfEsp(3), ESP, FIRST),
     (Offer::FirstOfEsp(2), ESP, None),
-    // extended numbers
+    // ESN
     (Offer::Extension(1), ESP, None),
     (Offer::Extension(1), ESP_EXTENDED, FIRST_EXTENDED),
     (Offer::Extension(0), ESP, FIRST),

@@ -4,7 +4,7 @@ use Rattle.esp.specs.Ahead.{HasFreshNumber, IsAsked}
 use Rattle.esp.specs.Delivery.{octets_of}
 use Rattle.esp.proofs.inbound.Inbound.fresh_packets.Given as goal
 
--- the packets so far that have a fresh number are asked for
+-- the packets so far that have a fresh sequence number are asked for
 abbrev pub invariant-loop-place : goal.invariant-loop-place
 invariant-loop-place g l = record {
   asked : All (IsAsked (octets_of l.packets)) (take l.count l.asked);

@@ -3,7 +3,7 @@ use Rattle.std.specs.FinMap as map
 use Rattle.sadb.proofs.PairsLemmas.{Walk, NotBelow}
 use Rattle.sadb.proofs.pairs.Pairs.after.Given as goal
 
--- the first serial so far is a pair's, lies above the one asked for, and not above that of any pair met
+-- the first serial so far is an SA pair's, lies above the one asked for, and not above that of any pair met
 abbrev pub invariant-loop-pair : goal.invariant-loop-pair
 invariant-loop-pair l = record {
   can_next : (goal.iterator-loop-pair).can_next l.pair-iterator;

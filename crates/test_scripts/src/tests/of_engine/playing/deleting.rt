@@ -1,4 +1,4 @@
-//! Scripts of kind `two` in which children and associations are deleted (RFC 7296, section 1.4.1).
+//! Scripts of kind `two` in which children and IKE SAs are deleted (RFC 7296, section 1.4.1).
 use super::probes::ESTABLISHED_WIDE;
 use super::two::{ESTABLISH, ESTABLISHED, OPENING, expect_two};
 
@@ -38,13 +38,13 @@ fn children(rt: HostRuntime) {
             "out B 4500001400000000400100000a0100010a000001\ndelete A 1\ndeliver 6\ndeliver 7\ndeliver 5\n",
             "sealed 5 child 1 number 1 length 48\nrequest 6 ike 1 length 61\nreply 7 length 61\ncounted ike 1\ndropped E28\n",
         ),
-        // A request that is not answered goes out again, five times, and then the association is closed.
+        // A request that is not answered goes out again, five times, and then the IKE SA is closed.
         (
             "delete A 1\ntick A 1000\ntick A 3000\ntick A 7000\ntick A 15000\ntick A 31000\nsame 5 10\ntick A 47000\ntable A\n",
             "request 5 ike 1 length 61\nrequest 6 ike 1 length 61\nrequest 7 ike 1 length 61\nrequest 8 ike 1 length 61\n\
             request 9 ike 1 length 61\nrequest 10 ike 1 length 61\nsame yes\nclosed ike 1\nempty\n",
         ),
-        // Of two associations the child of one goes, and the other's stays.
+        // Of two IKE SAs the child of one goes, and the other's stays.
         (
             "start A 0\ndeliver 5\ndeliver 6\ndeliver 7\ndeliver 8\ndelete A 2\ndeliver 9\ndeliver 10\ntable A\ntable B\n",
             "request 5 ike 2 length 148\nreply 6 length 148\nrequest 7 ike 2 length 202\nreply 8 length 194\ncounted ike 2 child 2\n\
@@ -70,13 +70,13 @@ fn associations(rt: HostRuntime) {
             "request 5 ike 1 length 57\nreply 6 length 49\nclosed ike 1\ncounted ike 1\nclosed ike 1\nempty\nempty\n\
             repeat 7 length 49\nrefused E32\nticked\ndropped E28\n",
         ),
-        // Each end deletes the same association at once: one that is closed takes no response.
+        // Each end deletes the same IKE SA at once: one that is closed takes no response.
         (
             "close A 1\nclose B 1\ndeliver 5\ndeliver 6\ndeliver 7\ndeliver 8\ntable A\ntable B\n",
             "request 5 ike 1 length 57\nrequest 6 ike 1 length 57\nreply 7 length 49\nclosed ike 1\nreply 8 length 49\nclosed ike 1\n\
             dropped E32\ndropped E32\nempty\nempty\n",
         ),
-        // One end deletes the child, the other the association.
+        // One end deletes the child, the other the IKE SA.
         (
             "delete A 1\nclose B 1\ndeliver 5\ndeliver 6\ndeliver 7\ndeliver 8\ntable A\ntable B\n",
             "request 5 ike 1 length 61\nrequest 6 ike 1 length 57\nreply 7 length 61\nreply 8 length 49\nclosed ike 1\n\

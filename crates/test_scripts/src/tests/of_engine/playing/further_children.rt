@@ -1,4 +1,4 @@
-//! Scripts of kind `two` in which a further child is asked for (RFC 7296, sections 1.3 and 1.3.1).
+//! Scripts of kind `two` in which an additional Child SA is asked for (RFC 7296, sections 1.3 and 1.3.1).
 use super::two::{ESTABLISH, ESTABLISHED, OPENING, expect_two};
 
 /// A protects a second network behind B, which B doesn't.
@@ -35,12 +35,12 @@ fn children(rt: HostRuntime) {
             pair 3 ike 1 in 00001001 out 00002002 live\npair 1 ike 1 in 00002000 out 00001000 live\n\
             pair 2 ike 1 in 00002002 out 00001001 live\npair 3 ike 1 in 00002001 out 00001002 live\n",
         ),
-        // While this end's deletion of the association waits for its answer, no child is made.
+        // While this end's deletion of the IKE SA waits for its answer, no child is made.
         (
             "close A 1\nchild B 1 0\ndeliver 6\ndeliver 7\ndeliver 5\n",
             "request 5 ike 1 length 57\nrequest 6 ike 1 length 181\nreply 7 length 57\ncounted ike 1\nreply 8 length 49\nclosed ike 1\n",
         ),
-        // The request goes out again, five times, and then the association is closed with its children.
+        // The request goes out again, five times, and then the IKE SA is closed with its children.
         (
             "child A 1 0\ntick A 1000\ntick A 3000\ntick A 7000\ntick A 15000\ntick A 31000\nsame 5 10\ntick A 47000\ntable A\n",
             "request 5 ike 1 length 181\nrequest 6 ike 1 length 181\nrequest 7 ike 1 length 181\nrequest 8 ike 1 length 181\n\
@@ -63,7 +63,7 @@ fn children(rt: HostRuntime) {
             "child A 1 0\ndamage 5 48 01\nreflect 5\ndeliver 5\nchild A 1 0\n",
             "request 5 ike 1 length 181\ndropped E29\ndropped E33\nreply 6 length 173\nrefused E35\n",
         ),
-        // No such association, no such entry; one request at a time.
+        // No such IKE SA, no such entry; one request at a time.
         (
             "child A 2 0\nchild A 0 0\nchild A 1 1\nprobe A 1\nchild A 1 1\nchild A 2 1\nchild A 1 0\n",
             "refused E28\nrefused E28\nrefused E23\nrequest 5 ike 1 length 49\nrefused E23\nrefused E23\nrefused E35\n",
@@ -91,7 +91,7 @@ fn refusals(rt: HostRuntime) {
             pair 2 ike 1 in 00001002 out 00002001 live\n",
         ],
     );
-    // None is asked for before the association is established, or once it is closed.
+    // None is asked for before the IKE SA is established, or once it is closed.
     expect_two(
         &rt,
         [

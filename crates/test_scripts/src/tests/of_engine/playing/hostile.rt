@@ -59,7 +59,8 @@ fn expect_cut<R: Abort + AllocGlobal>(rt: &R, sent: [&str; 2], length: u8, fault
 #[test]
 fn a_request_changed_at_each_octet(rt: HostRuntime) {
     for place in 0..49 {
-        // The SPIs, the number, the length; what says where the body begins; all else is under the check value or in its way.
+        // The SPIs, the number, the length; what says where the body begins; all else is under the ICV or in
+        // its way.
         let fault = match place {
             0..=15 => 28,
             20..=23 => 31,

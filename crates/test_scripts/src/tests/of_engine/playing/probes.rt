@@ -4,7 +4,7 @@ use super::{expect, lines};
 use crate::tests::asserts::{add, joined, repeated};
 use std::process::Abort;
 
-/// What an association and its first child print where both ends have a window of four.
+/// What an IKE SA and its first child print where both ends have a window of four.
 pub const ESTABLISHED_WIDE: &str =
     "request 1 ike 1 length 148\nreply 2 length 148\nrequest 3 ike 1 length 214\nreply 4 length 206\ncounted ike 1 child 1\n";
 
@@ -32,7 +32,7 @@ fn repeats(rt: HostRuntime) {
     for (rest, wanted) in rows {
         expect_two(&rt, [OPENING, ESTABLISH, rest], [ESTABLISHED, wanted]);
     }
-    // An association without its child asks as well.
+    // An IKE SA without its child asks as well.
     expect_two(
         &rt,
         [OPENING_APART, ESTABLISH, "probe A 1\n"],
@@ -109,7 +109,8 @@ fn moments(rt: HostRuntime) {
             "request 1 ike 1 length 148\nrequest 2 ike 2 length 148\nrequest 3 ike 1 length 148\nrequest 4 ike 2 length 148\n\
             ticked\nticked\nrequest 5 ike 1 length 148\nrequest 6 ike 2 length 148\n",
         ),
-        // Requests go out again before an association is closed at the same moment, though that one was begun first.
+        // Requests go out again before an IKE SA is closed at the same moment, though that one was begun
+        // first.
         (
             "start A 0\ntick A 1000\ntick A 3000\ntick A 7000\ntick A 15000\ntick A 31000\nstart A 0\ntick A 47000\n",
             "request 1 ike 1 length 148\nrequest 2 ike 1 length 148\nrequest 3 ike 1 length 148\nrequest 4 ike 1 length 148\n\

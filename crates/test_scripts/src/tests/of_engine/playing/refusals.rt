@@ -10,7 +10,7 @@ use std::process::Abort;
 const KINDS: &str =
     "|\n|\none\n|# one\none\n|three\n|ONE\n|TWO\n| one\n|one \n|one\r\n|one two\n|two \n|two one\n|on\u{e9}\n|#";
 
-/// Terms that no association has, parted by bars. K stands for a key.
+/// Terms that no SA has, parted by bars. K stands for a key.
 const TERMS: &str =
     "sa 255 K 2 no|sa 4294967296 K 2 no|sa -1 K 2 no|sa - K 2 no|sa 0x100 K 2 no|sa 256 00 2 no|sa 256 - 2 no|\
     sa K 2 no|sa 256 K 0 no|sa 256 K 1 no|sa 256 K 3 no|sa 256 K 127 no|sa 256 K 256 no|sa 256 K 4294967298 no|sa 256 K 2 maybe|\

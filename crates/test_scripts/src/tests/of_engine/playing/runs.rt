@@ -7,7 +7,7 @@ use std::panic::Expect;
 const PACKET: &str =
     "packet 00000100000000014500001400000000400100000a0000010a010001010202048c575ecd82b04c86d2e6c18115f2b52d\n";
 
-/// The packet with number 2^32, whose check value covers the high half.
+/// The packet with number 2^32, whose ICV covers the high half.
 const CROSSED: &str =
     "packet 00000100000000004500001400000000400100000a0000010a010001010202049fba5512a0d6030e4fda01d663374405\n";
 
@@ -75,7 +75,7 @@ fn an_end_refuses_and_the_script_goes_on(rt: HostRuntime) {
         0,
     );
 
-    // A number that the window passed, a packet whose low half is 0, another association's packet.
+    // A number that the window passed, a packet whose low half is 0, another SA's packet.
     let rest =
         "sender 64\nseal 4 00\ndeliver 1\nsender 0\nseal 4 00\ndeliver 2\nseal 4 00\ndeliver 3\n";
     let wanted =

@@ -20,14 +20,14 @@ pub const OPENING_APART: &str =
     "entry A protect 0 10.0.0.0-10.0.0.255 0-65535 10.1.0.0-10.1.0.255 0-65535\n\
     entry B protect 0 10.2.0.0-10.2.0.255 0-65535 10.0.0.0-10.0.0.255 0-65535\n";
 
-/// An association and its first child, from A to B.
+/// An IKE SA and its first child, from A to B.
 pub const ESTABLISH: &str = "start A 0\ndeliver 1\ndeliver 2\ndeliver 3\ndeliver 4\n";
 
 /// What that prints.
 pub const ESTABLISHED: &str =
     "request 1 ike 1 length 148\nreply 2 length 148\nrequest 3 ike 1 length 202\nreply 4 length 194\ncounted ike 1 child 1\n";
 
-/// Nine associations are begun at A, and eight of their requests come to B. The ninth is asked for a cookie.
+/// Nine IKE SAs are begun at A, and eight of their requests come to B. The ninth is asked for a cookie.
 const NINE: &str =
     "start A 0\nstart A 0\nstart A 0\nstart A 0\nstart A 0\nstart A 0\nstart A 0\nstart A 0\nstart A 0\n\
     deliver 1\ndeliver 2\ndeliver 3\ndeliver 4\ndeliver 5\ndeliver 6\ndeliver 7\ndeliver 8\ndeliver 9\ndeliver 18\n";

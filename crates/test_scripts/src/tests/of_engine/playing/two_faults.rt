@@ -1,5 +1,5 @@
-//! What two gateways refuse or drop, and the notices that they send. The check values of packets were computed with Python's `hmac`,
-//! from keys by RFC 7296, sections 2.14 and 2.17.
+//! What two gateways refuse or drop, and the notices that they send. The ICVs of packets were computed with
+//! Python's `hmac`, from keys by RFC 7296, sections 2.14 and 2.17.
 use super::lines;
 use super::two::{ESTABLISH, ESTABLISHED, OPENING, expect_two};
 use crate::tests::asserts::{add, joined, repeated};
@@ -136,7 +136,7 @@ fn old_numbers(rt: HostRuntime) {
     );
 }
 
-/// The requests by these associations, as the datagrams of their serials and so many more.
+/// The requests by these IKE SAs, as the datagrams of their serials and so many more.
 fn requests<R: Abort + AllocGlobal>(
     rt: &R,
     serials: RangeInclusive<u32>,
@@ -196,7 +196,7 @@ fn begun_printed<R: Abort + AllocGlobal>(rt: &R) -> String {
     printed
 }
 
-// The last one finds 32 associations half open.
+// The last one finds 32 IKE SAs half open.
 #[test]
 fn half_open_associations(rt: HostRuntime) {
     let script = begun(&rt);
@@ -208,7 +208,7 @@ fn half_open_associations(rt: HostRuntime) {
     );
 }
 
-// An end that holds 128 associations begins no more (E25), and makes none of a request that comes (E34).
+// An end that holds 128 IKE SAs begins no more (E25), and makes none of a request that comes (E34).
 #[test]
 fn associations_held(rt: HostRuntime) {
     let script = repeated(&rt, "start B 0\n", 129);
