@@ -32,86 +32,92 @@ fn the_page_of_gateway(rt: HostRuntime) -> Result<(), Fail> {
     use std::mem;
     use std::test::Fail;
 
-    // What an end sends: by UDP, from port 500 to port 500, or by IP, as protocol 50.
-    #[derive(Drop)]
-    enum Sent {
-        Udp(Items<u8>),
-        Ip(Items<u8>),
-    }
-
-    // The end of a site: site N has the addresses 10.N.0.0/16. A real host has sockets in place of `sent`,
-    // an interface in place of `up`, and its system's random octets in place of `drawn`.
-    #[derive(Drop)]
-    struct Host {
-        gateway: Gateway<ScriptCaller>,
-        site: u8,
-        sent: Vec<Sent>,
-        up: Vec<Items<u8>>,
-        drawn: u8,
-    }
-
+    // Site N has the addresses 10.N.0.0/16, and its gateway 192.0.2.N.
     fn end_of(alloc: Global, site: u8) -> Result<EndConfig, Fail> {
         let address = [192, 0, 2, site];
         let identity = Identity::address(alloc, address)?; // or Identity::fqdn(alloc, "a.example")?
         Ok(EndConfig { identity, address })
     }
 
-    impl Host {
-        fn new(alloc: Global, site: u8, peer: u8) -> Result<Host, Fail> {
-            let secret = [site; 32]; // of cookies: random octets too
-            let config = Config::new(end_of(alloc, site)?, end_of(alloc, peer)?, &secret)?;
-            let local = Range::prefix(Address::v4([10, site, 0, 0]), 16)?;
-            let remote = Range::prefix(Address::v4([10, peer, 0, 0]), 16)?;
-            let entry = Entry::protect(local, remote);
-            let policy = Policy::new(Items::from_slice(alloc, &[entry])?)?;
-            let start = first_spi(4096)?;
-            Ok(Host {
-                gateway: Gateway::new(alloc, config, policy, start, ScriptCaller),
-                site,
-                sent: Vec::new(alloc),
-                up: Vec::new(alloc),
-                drawn: site,
-            })
-        }
+    fn gateway_of(alloc: Global, site: u8, peer: u8) -> Result<Gateway<ScriptCaller>, Fail> {
+        let secret = [site; 32]; // of cookies: random octets
+        let config = Config::new(end_of(alloc, site)?, end_of(alloc, peer)?, &secret)?;
+        let local = Range::prefix(Address::v4([10, site, 0, 0]), 16)?;
+        let remote = Range::prefix(Address::v4([10, peer, 0, 0]), 16)?;
+        let entry = Entry::protect(local, remote);
+        let policy = Policy::new(Items::from_slice(alloc, &[entry])?)?;
+        let spi = first_spi(4096)?;
+        Ok(Gateway::new(alloc, config, policy, spi, ScriptCaller))
+    }
 
-        // Drawn anew for each input that has it.
-        fn draw(&mut self) -> Fresh {
-            self.drawn = self.drawn.wrapping_add(2);
-            Fresh {
-                spi: u64::from(self.drawn),
-                nonce: [self.drawn; 32],
-                secret: [self.drawn; 32],
-                seal: [self.drawn; 16],
-            }
+    // In place of the system's random octets, which a real host draws anew for each input that has them.
+    fn drawn(count: u8) -> Fresh {
+        Fresh {
+            spi: u64::from(count) + 1,
+            nonce: [count; 32],
+            secret: [count; 32],
+            seal: [count; 16],
         }
+    }
 
-        // One input, and what comes of it.
-        fn take(&mut self, alloc: Global, input: &Input<'_>) -> Result<(), Fail> {
-            let output = self.gateway.step(alloc, input);
-            for datagram in output.datagrams() {
-                self.sent.push(match datagram {
-                    Transmit::Ike(octets) => Sent::Udp(Items::from_slice(alloc, octets)?),
-                    Transmit::Esp(octets) => Sent::Ip(Items::from_slice(alloc, octets)?),
-                })?;
-            }
-            if let Output::Up { packet, .. } = output {
-                self.up.push(Items::from_slice(alloc, packet)?)?;
-            }
-            Ok(())
-        }
+    // What goes out: by UDP, from port 500 to port 500, or by IP, as protocol 50.
+    #[derive(Drop)]
+    enum Sent {
+        Udp(Items<u8>),
+        Ip(Items<u8>),
+    }
 
-        fn has_child(&self) -> bool {
-            self.gateway.table().after(0).is_some()
+    // A real host has sockets in place of `sent`, and an interface in place of `up`.
+    #[derive(Drop)]
+    struct Host {
+        gateway: Gateway<ScriptCaller>,
+        address: [u8; 4],
+        sent: Vec<Sent>,
+        up: Vec<Items<u8>>,
+    }
+
+    fn host_of(alloc: Global, site: u8, peer: u8) -> Result<Host, Fail> {
+        Ok(Host {
+            gateway: gateway_of(alloc, site, peer)?,
+            address: [192, 0, 2, site],
+            sent: Vec::new(alloc),
+            up: Vec::new(alloc),
+        })
+    }
+
+    fn start(alloc: Global, host: &mut Host) -> Result<(), Fail> {
+        let begin = Input::Start {
+            ike: None,
+            entry: 0,
+            fresh: &drawn(0),
+        };
+        take(alloc, host, &begin)
+    }
+
+    // ----
+    // One input, and what comes of it.
+    fn take(alloc: Global, host: &mut Host, input: &Input<'_>) -> Result<(), Fail> {
+        let output = host.gateway.step(alloc, input);
+        for datagram in output.datagrams() {
+            host.sent.push(match datagram {
+                Transmit::Ike(octets) => Sent::Udp(Items::from_slice(alloc, octets)?),
+                Transmit::Esp(octets) => Sent::Ip(Items::from_slice(alloc, octets)?),
+            })?;
         }
+        if let Output::Up { packet, .. } = output {
+            host.up.push(Items::from_slice(alloc, packet)?)?;
+        }
+        Ok(())
     }
 
     // The wire: what one end sent comes to the other one, but each third datagram is lost.
     fn carry(alloc: Global, count: &mut u8, from: &mut Host, to: &mut Host) -> Result<(), Fail> {
         for datagram in mem::replace(&mut from.sent, Vec::new(alloc)) {
-            let fresh = to.draw();
+            *count = count.wrapping_add(1);
+            let fresh = drawn(*count);
             let input = match &datagram {
                 Sent::Udp(octets) => Input::Ike {
-                    from: [192, 0, 2, from.site],
+                    from: from.address,
                     octets: octets.as_slice(),
                     fresh: &fresh,
                 },
@@ -119,75 +125,44 @@ fn the_page_of_gateway(rt: HostRuntime) -> Result<(), Fail> {
                     octets: octets.as_slice(),
                 },
             };
-            *count = *count % 3 + 1;
-            if *count != 3 {
-                to.take(alloc, &input)?;
+            if *count % 3 != 0 {
+                take(alloc, to, &input)?;
             }
         }
         Ok(())
     }
 
-    // What waits at both ends is carried.
-    fn exchange(alloc: Global, count: &mut u8, a: &mut Host, b: &mut Host) -> Result<(), Fail> {
-        carry(alloc, count, a, b)?;
-        carry(alloc, count, b, a)
-    }
-
-    // Where nothing is on its way, time jumps to what is due next. A real host sleeps until then, or until
-    // a datagram comes.
-    fn wait(alloc: Global, a: &mut Host, b: &mut Host) -> Result<(), Fail> {
-        let due = a.gateway.next_moment().unwrap_or(u64::MAX);
-        let moment = b.gateway.next_moment().unwrap_or(due).min(due);
-        a.take(alloc, &Input::Tick { moment })?;
-        b.take(alloc, &Input::Tick { moment })
-    }
-
-    // The end `a` begins; done once both hold a child.
-    fn meet(alloc: Global, count: &mut u8, a: &mut Host, b: &mut Host) -> Result<(), Fail> {
-        let fresh = a.draw();
-        let beginning = Input::Start {
-            ike: None,
-            entry: 0,
-            fresh: &fresh,
-        };
-        a.take(alloc, &beginning)?;
-        for _ in 0..20u32 {
-            exchange(alloc, count, a, b)?;
-            if a.has_child() && b.has_child() {
-                break;
-            }
-            if a.sent.is_empty() {
-                wait(alloc, a, b)?;
-            }
-        }
-        Ok(())
-    }
-
-    // A packet goes out at `a`, twice, since nobody sends lost ESP again; what came up at `b` last.
-    fn send(
+    // A turn of the loop: a packet for the other site, what comes from the peer, and the time. Here it jumps
+    // to what is due next; a real host sleeps until then, or until something comes.
+    fn turn(
         alloc: Global,
         count: &mut u8,
+        packet: &[u8],
         a: &mut Host,
         b: &mut Host,
-        packet: &[u8],
-    ) -> Result<Items<u8>, Fail> {
-        for _ in 0..2u32 {
-            a.take(alloc, &Input::Outward { packet })?;
-            carry(alloc, count, a, b)?;
+    ) -> Result<(), Fail> {
+        take(alloc, a, &Input::Outward { packet })?; // dropped as long as there is no tunnel
+        carry(alloc, count, a, b)?;
+        carry(alloc, count, b, a)?;
+        if let Some(moment) = a.gateway.next_moment() {
+            take(alloc, a, &Input::Tick { moment })?;
         }
-        Ok(b.up.pop().ok_or("nothing went up")?)
+        Ok(())
     }
 
     let alloc = rt.alloc();
-    let mut a = Host::new(alloc, 1, 2)?;
-    let mut b = Host::new(alloc, 2, 1)?;
-    let mut count = 0;
-    meet(alloc, &mut count, &mut a, &mut b)?;
+    let mut a = host_of(alloc, 1, 2)?;
+    let mut b = host_of(alloc, 2, 1)?;
     // From 10.1.0.1 to 10.2.0.1.
     let packet = [
         0x45, 0, 0, 20, 0, 0, 0, 0, 64, 1, 0, 0, 10, 1, 0, 1, 10, 2, 0, 1,
     ];
-    let up = send(alloc, &mut count, &mut a, &mut b, &packet)?;
+    start(alloc, &mut a)?;
+    let mut count = 0;
+    for _ in 0..20u32 {
+        turn(alloc, &mut count, &packet, &mut a, &mut b)?;
+    }
+    let up = b.up.pop().ok_or("nothing went up")?;
     assert_eq!(rt; up.as_slice(), packet.as_slice());
     Ok(())
 }
