@@ -45,8 +45,8 @@ pub(crate) fn push_window(
 }
 
 /// The window that the peer tells in these payloads (RFC 7296, section 2.3): that of the first
-/// SET_WINDOW_SIZE notification with four octets of data, whatever protocol and SPI it names, where 0 counts
-/// as 1 and more than 16 as 16. Without one it is 1. Takes no memory.
+/// SET_WINDOW_SIZE notification with four octets of data, whatever protocol and SPI it names. A 0 counts as
+/// 1, what is above 16 as 16, and no such notification as 1. Takes no memory.
 pub fn peer_window(payloads: &[Payload]) -> u8
     ensures { result ≡ peer_window payloads.now }
 {

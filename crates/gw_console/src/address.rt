@@ -1,4 +1,5 @@
-//! Addresses as text: four decimal numbers with dots, or eight groups of four hexadecimal digits with colons, none left out.
+//! Addresses as text: of IPv4 four decimal numbers with dots, of IPv6 all 32 hexadecimal digits, by fours
+//! between colons.
 ghost use Rattle.std.specs.Prelude.{◌≡◌, IfOk, string_bytes};
 ghost use Rattle.gw_console.specs.Addresses.{address_text, groups_text};
 

@@ -3,10 +3,11 @@
 //!
 //! What follows from the definitions alone is in [`laws`].
 //!
-//! A request goes out again 1000, 2000, 4000, 8000 and 16,000 ms after its last sending, and 16,000 ms after
-//! the last one the IKE SA is closed ([`requests::Timer`]). A half-open IKE SA is held for 30,000 ms, a
-//! closed one for 120,000 ms; both are limits of this implementation. [`tick`] does what is due at a time, at
-//! all IKE SAs, and [`next_due`] tells the least time at which something is.
+//! An unanswered request is retransmitted five times. The first wait has 1000 ms, each other one twice as
+//! many as the one before, and each counts from the sending before it. 16,000 ms after the fifth
+//! retransmission the IKE SA is closed ([`requests::Timer`]). A half-open IKE SA is held for 30,000 ms, a
+//! closed one for 120,000 ms; both are limits of this implementation. [`tick`] does what is due at a time,
+//! at all IKE SAs, and [`next_due`] tells the least time at which something is.
 //!
 //! ```text
 //! let ticked = tick(alloc, &mut associations, &mut table, now)?;

@@ -7,8 +7,8 @@ use thiserror::Error;
 /// Why entries are no policy.
 #[derive(Clone, Copy, Debug, PartialEq, Eq, Error)]
 pub enum PolicyFault {
-    /// The first entry, counted from 0, that has a range whose end is below its start or sides of two
-    /// families, or that comes after 256 others.
+    /// The first entry, counted from 0, with a range that ends below its start or with sides of two
+    /// families, or the one that comes after 256 others.
     #[error("E6: policy entry {index} is at fault")]
     BadEntry { index: usize },
 }

@@ -4,7 +4,7 @@
 //! A traffic selector is a set of [`Point`]s. A point is one end of a flow: an IP protocol, an address of
 //! either family, and a port where the protocol has ports: of these TCP and UDP alone count, and ICMP
 //! types, mobility header types and OPAQUE ports are not understood, a limit of this implementation. A list
-//! of selectors is the union of its members. A point of one family is in no set of the other.
+//! of selectors is the union of its members. No selector holds points of both families.
 //!
 //! [`inner`] finds the [`Flow`] of an IP packet, [`family_of_packet`] the family that its version names,
 //! [`Policy::decide`] what is done with a flow, [`covers`] whether selectors hold it, [`narrow`] what an

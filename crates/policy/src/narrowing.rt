@@ -21,13 +21,13 @@ pub struct Narrowed {
 /// Narrows an offer to the policy of the responder (RFC 7296 section 2.9): the responder's selectors are
 /// the local side.
 ///
-/// Only entries with the action Protect count. Chosen is the first whose remote and local side hold the
-/// whole of the first selector of each list, if these have points; else the first that meets both lists.
-/// The answer has, in the offered order, the part of each offered selector inside the entry, and leaves out
-/// those without points.
+/// One entry with the action Protect is chosen. Where the first selectors of both lists have points, it is
+/// the first entry that takes these two in whole, each on its side. Where there is none, or one of them has
+/// no point, it is the first that has points of both lists. The answer has, in the offered order, the part
+/// of each offered selector inside the entry, and leaves out those without points.
 ///
-/// [`NarrowFault::Unacceptable`] (E23) where no entry is chosen, so for an empty list. Where one is,
-/// [`NarrowFault::Memory`] (E24) is the only refusal, where a growth was refused.
+/// [`NarrowFault::Unacceptable`] (E23) where no entry can be chosen, as for a list of no selector. Behind a
+/// choice there is one refusal left, [`NarrowFault::Memory`] (E24), where a growth was refused.
 pub fn narrow(
     alloc: Global,
     offered_i: &[Selector],

@@ -46,8 +46,8 @@ impl Model for Policy {
 
 impl Policy {
     /// A policy of at most 256 entries, which takes no memory. [`PolicyFault::BadEntry`] (E6) tells the
-    /// first entry that has a range whose end is below its start or sides of two families, or that comes
-    /// after 256 others.
+    /// first entry with a range that ends below its start or with sides of two families, or the one that
+    /// comes after 256 others.
     pub fn new(entries: Items<Entry>) -> Result<Policy, PolicyFault>
         ensures policy { IfOk result (λ policy. policy ≡ entries) }
         ensures sound { IfOk result (λ policy. IsSoundPolicy policy) }

@@ -23,11 +23,12 @@ pub enum WireFault {
     /// The major version is not 2; in encoding, the minor version is above 15.
     #[error("E3: the version is not supported")]
     BadVersion,
-    /// In decoding: a payload's header does not fit, its length is below 4 or past the end, the chain names
-    /// a payload where no octet is left, octets are left where it names none, or an encrypted payload is
-    /// not the last (in [`decode_chain`](crate::decode_chain): is there at all). In encoding: an encrypted
-    /// payload is not the last, a skipped, unknown or encrypted one is too long for its length field, or an
-    /// unknown one has the type 0 or a type with a form of its own.
+    /// In decoding: too few octets are left for a payload's header or for the length that it tells, or that
+    /// length doesn't cover the header's own 4 octets. The octets end although a next payload is announced,
+    /// or go on although none is. Another payload follows an encrypted one (in
+    /// [`decode_chain`](crate::decode_chain): one is there at all). In encoding: an encrypted payload is not
+    /// the last, a skipped, unknown or encrypted one is too long for its length field, or an unknown one has
+    /// the type 0 or a type with a form of its own.
     #[error("E4 at {offset}: the chain of payloads is broken")]
     BadChain { offset: usize },
     /// The inside of an SA payload.
