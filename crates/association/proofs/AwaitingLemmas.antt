@@ -5,7 +5,7 @@ use Rattle.std.proofs.lemmas.Option.{none-some}
 use Rattle.requests.specs.Outgoing.{NoneOutstanding, OwnRequests, SomeOutstanding}
 use Rattle.association.specs.Closing.{HoldsNoSpi, HoldsSomeSpi}
 use Rattle.association.specs.Phases.{spi_in}
-use Rattle.association.specs.Purposes.{asks_for_child, spi_asked, AwaitsNone, AwaitsSome, AwaitsSpi}
+use Rattle.association.specs.Purposes.{asks_for_child, spi_asked, AwaitsNone, AwaitsSome}
 use Rattle.association.specs.declared.phase.Association.{Association}
 use Rattle.association.specs.declared.phase.Request.{Request}
 use Rattle.association.specs.declared.purpose.Purpose.{Purpose}

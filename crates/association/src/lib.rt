@@ -42,7 +42,7 @@ pub use asked_child::AskedChild;
 pub use fault::{MessageFault, OrderFault};
 pub use finding::find;
 pub use issuing::{issued, new_request};
-pub use outcome::{Answered, Ended, Issued, unless_made};
+pub use outcome::{Answered, Ended, Fate, Issued, unless_made};
 pub use phase::{Association, AuthSent, HalfOpen, InitSent, Phase, Request};
 pub use purpose::{FurtherChild, Purpose};
 pub use receiving::{Received, receive};

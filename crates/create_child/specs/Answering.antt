@@ -21,6 +21,8 @@ use Rattle.association.specs.Sending.{reply_message}
 use Rattle.association.specs.Issuing.{with_incoming}
 use Rattle.setup.specs.Configs.{Setup}
 use Rattle.association.specs.declared.outcome.Answered.{Answered}
+use Rattle.association.specs.declared.outcome.Fate.{Fate}
+use Rattle.association.specs.declared.outcome.Fate.TheVariants as fate
 use Rattle.further.specs.Answering.{answer_to_further, further_answer, further_pair}
 use Rattle.further.specs.Deciding.{is_closing_decision, DecidesFurther}
 use Rattle.further.specs.declared.deciding.Decision.{Decision}
@@ -31,15 +33,15 @@ CanInstall table None = Unit {0}
 CanInstall table (Some pair) = CanTake table pair
 
 -- a Child SA is added, if there is one, and the IKE SA stays as it is
-abbrev pub AddsFurther : Option Pair → Database → Option ℕ → Database → Type 0
-AddsFurther None table None new = new ≡ table
-AddsFurther (Some pair) table (Some serial) new = AddsNext table pair serial new
-AddsFurther pair table child new = ⊥
+abbrev pub AddsFurther : Option Pair → Database → Fate → Database → Type 0
+AddsFurther None table fate.Stands new = new ≡ table
+AddsFurther (Some pair) table (fate.Made serial) new = AddsNext table pair serial new
+AddsFurther pair table came new = ⊥
 
 -- the IKE SA ends, with all its Child SAs; or not
-abbrev pub ConcludesFurther : Bool → Option Pair → Association → Database → ℕ → Option ℕ → Association → Database → Type 0
-ConcludesFurther true pair old table moment child new new_table = (child ≡ None) × Closes old table moment new new_table
-ConcludesFurther false pair old table moment child new new_table = (new ≡ old) × AddsFurther pair table child new_table
+abbrev pub ConcludesFurther : Bool → Option Pair → Association → Database → ℕ → Fate → Association → Database → Type 0
+ConcludesFurther true pair old table moment came new new_table = (came ≡ fate.Closed) × Closes old table moment new new_table
+ConcludesFurther false pair old table moment came new new_table = (new ≡ old) × AddsFurther pair table came new_table
 
 -- The request is processed: it is answered, the response is cached, and the Child SA is made, or none, or the
 -- IKE SA ends.
@@ -58,8 +60,7 @@ pub record AnswersFurther (body_of : Keys → Octets → Octets → Octets → O
   pub taken : TakesRequest ready number answer.octets incoming
   pub between : Database
   pub room : IsAsBefore table between
-  pub closed : answer.closed ≡ is_closing_decision decision
-  pub concluded : ConcludesFurther (is_closing_decision decision) (further_pair decision) (with_incoming old incoming) between setup.moment answer.child new new_table
+  pub concluded : ConcludesFurther (is_closing_decision decision) (further_pair decision) (with_incoming old incoming) between setup.moment answer.fate new new_table
 
 -- The request is processed at an established IKE SA. Elsewhere nothing is done.
 abbrev pub AnswersWhereEstablished : (Keys → Octets → Octets → Octets → Octets) → Setup → Association → Database → ℕ → Plain → Option Answered → Association → Database → Type 0

@@ -19,6 +19,8 @@ use Rattle.association.specs.declared.purpose.Purpose.TheVariants.{CreateChild}
 use Rattle.association.specs.Issuing.{with_outgoing}
 use Rattle.setup.specs.Configs.{Setup}
 use Rattle.association.specs.declared.outcome.Ended.{Ended}
+use Rattle.association.specs.declared.outcome.Fate.{Fate}
+use Rattle.association.specs.declared.outcome.Fate.TheVariants as fate
 use Rattle.further.specs.Concluding.{Concludes}
 use Rattle.exchange.specs.Chains.{TellsError}
 use Rattle.further.specs.declared.concluding.Concluded.{Concluded}
@@ -63,29 +65,29 @@ is_closing_conclusion (conclusion.Made pair) = false
 is_closing_conclusion conclusion.NoChild = false
 
 -- The IKE SA ends, and the Child SA's SPI is given up with those that it holds.
-pub record EndsWithout (spi : ℕ) (old : Association) (table : Database) (moment : ℕ) (child : Option ℕ) (new : Association) (new_table : Database) : Type 0 where
-  pub none : child ≡ None
+pub record EndsWithout (spi : ℕ) (old : Association) (table : Database) (moment : ℕ) (came : Fate) (new : Association) (new_table : Database) : Type 0 where
+  pub closed : came ≡ fate.Closed
   pub between : Database
   pub released : Releases table spi between
   pub over : Closes old between moment new new_table
 
 -- The Child SA is made, under its SPI.
-pub record AddsUnder (spi : ℕ) (pair : Pair) (old : Association) (table : Database) (child : Option ℕ) (new : Association) (new_table : Database) : Type 0 where
+pub record AddsUnder (spi : ℕ) (pair : Pair) (old : Association) (table : Database) (came : Fate) (new : Association) (new_table : Database) : Type 0 where
   pub serial : ℕ
-  pub told : child ≡ Some serial
+  pub told : came ≡ fate.Made serial
   pub installed : Installs table spi pair serial new_table
   pub same : new ≡ old
 
 -- No Child SA is made, and its SPI is given up.
-pub record GoesOnWithout (spi : ℕ) (old : Association) (table : Database) (child : Option ℕ) (new : Association) (new_table : Database) : Type 0 where
-  pub none : child ≡ None
+pub record GoesOnWithout (spi : ℕ) (old : Association) (table : Database) (came : Fate) (new : Association) (new_table : Database) : Type 0 where
+  pub stands : came ≡ fate.Stands
   pub released : Releases table spi new_table
   pub same : new ≡ old
 
-abbrev pub EndsFurther : Conclusion → ℕ → Association → Database → ℕ → Option ℕ → Association → Database → Type 0
-EndsFurther conclusion.Closes spi old table moment child new new_table = EndsWithout spi old table moment child new new_table
-EndsFurther (conclusion.Made pair) spi old table moment child new new_table = AddsUnder spi pair old table child new new_table
-EndsFurther conclusion.NoChild spi old table moment child new new_table = GoesOnWithout spi old table child new new_table
+abbrev pub EndsFurther : Conclusion → ℕ → Association → Database → ℕ → Fate → Association → Database → Type 0
+EndsFurther conclusion.Closes spi old table moment came new new_table = EndsWithout spi old table moment came new new_table
+EndsFurther (conclusion.Made pair) spi old table moment came new new_table = AddsUnder spi pair old table came new new_table
+EndsFurther conclusion.NoChild spi old table moment came new new_table = GoesOnWithout spi old table came new new_table
 
 -- The response is matched, and concluded on.
 pub record CountsFurther (setup : Setup) (old : Association) (table : Database) (number : ℕ) (plain : Plain) (ended : Ended) (new : Association) (new_table : Database) : Type 0 where
@@ -98,9 +100,8 @@ pub record CountsFurther (setup : Setup) (old : Association) (table : Database) 
   pub counted : CountsAnswer old.outgoing number request outgoing
   pub conclusion : Conclusion
   pub concluded : Concludes setup.config.blocks old.serial keys (asked_of further.child) further.nonce plain conclusion
-  pub closed : ended.closed ≡ is_closing_conclusion conclusion
-  pub declined : IsDeclinedBy plain ended.child ended.declined
-  pub ends : EndsFurther conclusion further.child.spi (with_outgoing old outgoing) table setup.moment ended.child new new_table
+  pub declined : IsDeclinedBy plain ended.fate ended.declined
+  pub ends : EndsFurther conclusion further.child.spi (with_outgoing old outgoing) table setup.moment ended.fate new new_table
 
 -- It is matched where it answers such a request; else nothing is done.
 abbrev pub CountsWhereAwaited : Setup → Association → Database → ℕ → Plain → Option Ended → Association → Database → Type 0

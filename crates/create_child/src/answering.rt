@@ -13,7 +13,7 @@ ghost use Rattle.further.specs.Answering.{further_answer, FitsAnswer};
 ghost use Rattle.create_child.specs.Answering.{AnswersWhereEstablished, CanInstall, ConcludesFurther};
 
 use association::laws::spis_stay_held;
-use association::{Answered, Association, Phase};
+use association::{Answered, Association, Fate, Phase};
 use base::Items;
 use children::{MemoryFault, install};
 use exchange::laws::short_messages_can_be_sent;
@@ -74,12 +74,8 @@ pub fn answer<C: Sealer>(
     association.incoming.prepare()?;
     // From here on nothing can be refused.
     association.incoming.take(number, kept);
-    let child = conclude(association, table, closed, pair, setup.moment);
-    Ok(Some(Answered {
-        octets,
-        child,
-        closed,
-    }))
+    let fate = conclude(association, table, closed, pair, setup.moment);
+    Ok(Some(Answered { octets, fate }))
 }
 
 fn make_reply<C: Sealer>(
@@ -119,17 +115,17 @@ fn conclude(
     closed: bool,
     pair: Option<Pair>,
     moment: u64,
-) -> Option<u32>
+) -> Fate
     requires reserved { HoldsReserved association.old table.old }
     requires room { CanInstall table.old pair }
     ensures { ConcludesFurther closed pair association.old table.old moment result association.new table.new }
 {
     if closed {
         association.close(table, moment);
-        return None;
+        return Fate::Closed;
     }
     match pair {
-        Some(pair) => Some(install(table, pair)),
-        None => None,
+        Some(pair) => Fate::Made(install(table, pair)),
+        None => Fate::Stands,
     }
 }

@@ -4,10 +4,10 @@ ghost use Rattle.sadb.specs.Database.{IsReserved};
 ghost use Rattle.association.specs.Closing.{HoldsReserved, HoldsSpi};
 ghost use Rattle.children.specs.declared.fault.MemoryFault.TheVariants as child;
 ghost use Rattle.setup.specs.Configs.{setup_of};
-ghost use Rattle.create_child.specs.Counting.{is_closing_conclusion, ConcludesWhereAwaited, CountsWhereAwaited, EndsFurther, HasItsSpi};
+ghost use Rattle.create_child.specs.Counting.{ConcludesWhereAwaited, CountsWhereAwaited, EndsFurther, HasItsSpi};
 
 use association::laws::{children_are_asked_for, spis_stay_held};
-use association::{Association, Ended, Phase, Purpose, unless_made};
+use association::{Association, Ended, Fate, Phase, Purpose, unless_made};
 use children::MemoryFault;
 use exchange::Plain;
 use further::{Concluded, Conclusion, conclude_response};
@@ -48,14 +48,9 @@ pub fn count<C>(
     // From here on nothing can be refused.
     let request = association.outgoing.count(number);
     let spi = request.purpose.into_spi().unwrap();
-    let closed = is_closing(&conclusion);
-    let child = conclude(association, table, spi, conclusion, setup.moment);
-    let declined = unless_made(child, error);
-    Ok(Some(Ended {
-        child,
-        closed,
-        declined,
-    }))
+    let fate = conclude(association, table, spi, conclusion, setup.moment);
+    let declined = unless_made(fate, error);
+    Ok(Some(Ended { fate, declined }))
 }
 
 // What the response makes of the request with its Message ID, where that asked for a Child SA.
@@ -91,16 +86,6 @@ fn conclusion_at<C>(
     Ok(Some(concluded))
 }
 
-fn is_closing(conclusion: &Conclusion) -> bool
-    ensures { result ≡ is_closing_conclusion conclusion.now }
-{
-    match conclusion {
-        Conclusion::Closes => true,
-        Conclusion::Made(_) => false,
-        Conclusion::NoChild => false,
-    }
-}
-
 // The Child SA's SPI, which the IKE SA holds no more, goes to its SA pair or back to the table.
 fn conclude(
     association: &mut Association,
@@ -108,7 +93,7 @@ fn conclude(
     spi: Spi,
     conclusion: Conclusion,
     moment: u64,
-) -> Option<u32>
+) -> Fate
     requires held { HoldsReserved association.old table.old }
     requires reserved { IsReserved table.old spi }
     requires apart { ¬ HoldsSpi association.old spi }
@@ -120,12 +105,12 @@ fn conclude(
         Conclusion::Closes => {
             table.release(spi);
             association.close(table, moment);
-            None
+            Fate::Closed
         }
-        Conclusion::Made(pair) => Some(table.install(spi, pair)),
+        Conclusion::Made(pair) => Fate::Made(table.install(spi, pair)),
         Conclusion::NoChild => {
             table.release(spi);
-            None
+            Fate::Stands
         }
     }
 }

@@ -14,6 +14,8 @@ use Rattle.initial.specs.declared.concluding.Outcome.TheVariants as outcome
 use Rattle.informational.specs.Orders.{ClosesIf}
 use Rattle.effects.proofs.DeterminedLaws.{TableLaws}
 use Rattle.effects.proofs.WayLemmas.{FurtherIf}
+use Rattle.association.specs.Outcomes.{made_by}
+use Rattle.association.specs.declared.outcome.Fate.{Fate}
 
 -- the Child SA and the table
 pub record SameChild (child other : Option ℕ) (a b : Database) : Type 0 where
@@ -44,16 +46,16 @@ pub record SameConclusion (child other : Option ℕ) (a b : Association) (a_tabl
   pub association : association_content a ≡ association_content b
   pub table : table_content a_table ≡ table_content b_table
 
-pub one_conclusion : TableLaws → (setup : Setup) (o : Outcome) (child number : Option ℕ) (old other a b : Association) (table another a_table b_table : Database)
+pub one_conclusion : TableLaws → (setup : Setup) (o : Outcome) (came other_came : Fate) (old other a b : Association) (table another a_table b_table : Database)
     → association_content old ≡ association_content other → table_content table ≡ table_content another
-    → ConcludesBy setup old table o child a a_table → ConcludesBy setup other another o number b b_table → SameConclusion child number a b a_table b_table
-one_conclusion laws setup outcome.Closes child number old other a b table another a_table b_table same alike is also =
+    → ConcludesBy setup old table o came a a_table → ConcludesBy setup other another o other_came b b_table → SameConclusion (made_by came) (made_by other_came) a b a_table b_table
+one_conclusion laws setup outcome.Closes came other_came old other a b table another a_table b_table same alike is also =
     let over = laws.ended old other a b table another a_table b_table setup.moment same alike is.over also.over in
-    record { child_is = is.none ∙ sym also.none; association = over.0; table = over.1 }
-one_conclusion laws setup (outcome.Establishes pair window) child number old other a b table another a_table b_table same alike is also =
+    record { child_is = ap made_by is.closed ∙ sym (ap made_by also.closed); association = over.0; table = over.1 }
+one_conclusion laws setup (outcome.Establishes pair window) came other_came old other a b table another a_table b_table same alike is also =
     let spis : established_spi other.phase ≡ established_spi old.phase = sym (ap (λ (x : Association). established_spi x.phase) same) in
-    let moved : AddsChild another (established_spi old.phase) pair number b_table = subst (λ (spi : Option ℕ). AddsChild another spi pair number b_table) spis also.added in
-    let added = one_added laws (established_spi old.phase) pair child number table another a_table b_table alike is.added moved in
+    let moved : AddsChild another (established_spi old.phase) pair (made_by other_came) b_table = subst (λ (spi : Option ℕ). AddsChild another spi pair (made_by other_came) b_table) spis also.added in
+    let added = one_added laws (established_spi old.phase) pair (made_by came) (made_by other_came) table another a_table b_table alike is.added moved in
     record {
       child_is = added.child_is;
       association =

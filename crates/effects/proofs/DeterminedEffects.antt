@@ -17,7 +17,7 @@ use Rattle.sadb.specs.Contents.{table_content}
 use Rattle.sadb.specs.Database.{Database, PairMap}
 use Rattle.association.specs.AskedChildren.{asked_of}
 use Rattle.association.specs.Contents.{association_content}
-use Rattle.association.specs.Outcomes.{unless_made, IsDeclinedBy}
+use Rattle.association.specs.Outcomes.{childless, closed_by, made_by, unless_made, IsDeclinedBy}
 use Rattle.association.specs.Phases.{keys_in}
 use Rattle.association.specs.Purposes.{AwaitsDeletion}
 use Rattle.association.specs.Receiving.{Answers, AnswersInitial, IsReceived, Reception, Refused, Repeat, TakesEffect}
@@ -34,7 +34,7 @@ use Rattle.association.specs.declared.purpose.Purpose.{Purpose}
 use Rattle.association.specs.declared.purpose.Purpose.TheVariants.{CreateChild}
 use Rattle.initial.specs.Answering.{outcome_of, reply_payloads, AnswersAuth, Prover}
 use Rattle.association.specs.Sending.{reply_message}
-use Rattle.initial.specs.Concluding.{is_closing, ConcludesBy}
+use Rattle.initial.specs.Concluding.{ConcludesBy}
 use Rattle.association.specs.Issuing.{with_incoming, with_outgoing}
 use Rattle.setup.specs.Configs.{Setup}
 use Rattle.initial.specs.Deciding.{Decides}
@@ -67,6 +67,8 @@ use Rattle.effects.proofs.DeterminedConclusions.{one_closing, one_conclusion, on
 use Rattle.effects.proofs.DeterminedDecisions.{one_decision, one_read, one_verdict}
 use Rattle.effects.proofs.DeterminedReadings.{keys_by_role, one_response}
 use Rattle.effects.proofs.WayLemmas.{answered_further, counted_further, pair_made}
+use Rattle.association.specs.declared.outcome.Fate.{Fate}
+use Rattle.effects.proofs.FateLemmas.{answered_fate, concluded_fate, counted_fate, same_fate}
 
 -- two ends of one beginning
 pub record SameEnd (e f : Effect) (a b : Association) (a_table b_table : Database) : Type 0 where
@@ -89,11 +91,11 @@ same_further one other same = cc
 same_keys : (p : Phase) (one other : KeyRecord) → p ≡ phase.Established one → p ≡ phase.Established other → one ≡ other
 same_keys p one other is also = cc
 
-answered_alike : (a b : Answered) → a.octets ≡ b.octets → a.child ≡ b.child → a.closed ≡ b.closed → a ≡ b
-answered_alike a b octets child closed = λ i. record { octets = octets i; child = child i; closed = closed i }
+answered_alike : (a b : Answered) → a.octets ≡ b.octets → a.fate ≡ b.fate → a ≡ b
+answered_alike a b octets came = λ i. record { octets = octets i; fate = came i }
 
-ended_alike : (a b : Ended) → a.child ≡ b.child → a.closed ≡ b.closed → a.declined ≡ b.declined → a ≡ b
-ended_alike a b child closed declined = λ i. record { child = child i; closed = closed i; declined = declined i }
+ended_alike : (a b : Ended) → a.fate ≡ b.fate → a.declined ≡ b.declined → a ≡ b
+ended_alike a b came declined = λ i. record { fate = came i; declined = declined i }
 
 module _ (laws : Laws) (meaning : Meaning) (setup : Setup) (old other : Association) (same : association_content old ≡ association_content other) (table another : Database) (alike : table_content table ≡ table_content another) where
   -- ---- what all exchanges do
@@ -123,11 +125,11 @@ module _ (laws : Laws) (meaning : Meaning) (setup : Setup) (old other : Associat
       (laws.outgoing.counted old.outgoing other.outgoing one another number request asked (ap (λ (z : Association). z.outgoing) same) is also).1 in
       ap (λ (z : Association). record z { outgoing = outgoing_content one }) same ∙ ap (λ (r : OwnRequests Request). record (association_content other) { outgoing = r }) outgoing
 
-  one_declined : (plain : Plain) (x y : Ended) → x.child ≡ y.child → IsDeclinedBy plain x.child x.declined → IsDeclinedBy plain y.child y.declined → x.declined ≡ y.declined
-  one_declined plain x y child is also =
+  one_declined : (plain : Plain) (x y : Ended) → x.fate ≡ y.fate → IsDeclinedBy plain x.fate x.declined → IsDeclinedBy plain y.fate y.declined → x.declined ≡ y.declined
+  one_declined plain x y came is also =
       let payloads : also.told.payloads ≡ is.told.payloads = one_read laws.messages plain also.told.payloads is.told.payloads also.told.read is.told.read in
       let error : also.error ≡ is.error = also.told.told ∙ ap error_of payloads ∙ sym is.told.told in
-      is.due ∙ ap (λ (c : Option ℕ). unless_made c is.error) child ∙ ap (λ (e : Option ℕ). unless_made y.child e) (sym error) ∙ sym also.due
+      is.due ∙ ap (λ (f : Fate). unless_made f is.error) came ∙ ap (λ (e : Option ℕ). unless_made y.fate e) (sym error) ∙ sym also.due
 
   -- ---- IKE_AUTH at the responder
 
@@ -151,12 +153,14 @@ module _ (laws : Laws) (meaning : Meaning) (setup : Setup) (old other : Associat
       one_sealing tells is.opened.keys (whole is.opened.keys (ap keys_in is.was)) IKE_AUTH number (reply_payloads prover.own_method prover.proof_of setup is.opened is.decision) x.octets y.octets is.sealed sealed_by_decision in
       let between : table_content is.between ≡ table_content also.between = laws.tables.prepared table is.between is.room ∙ alike ∙ sym (laws.tables.prepared another also.between also.room) in
       let before = one_taking number x.octets y.octets is.ready also.ready is.incoming also.incoming octets is.prepared also.prepared is.taken also.taken in
-      let concluded : ConcludesBy setup (with_incoming other also.incoming) also.between (outcome_of is.decision) y.child b b_table =
-      subst (λ (d : Decision). ConcludesBy setup (with_incoming other also.incoming) also.between (outcome_of d) y.child b b_table) decision also.concluded in
-      let over = one_conclusion laws.tables setup (outcome_of is.decision) x.child y.child (with_incoming old is.incoming) (with_incoming other also.incoming) a b is.between also.between a_table b_table before between is.concluded concluded in
-      let closed : x.closed ≡ y.closed = is.closed ∙ ap (λ (d : Decision). is_closing (outcome_of d)) (sym decision) ∙ sym also.closed in
+      let concluded : ConcludesBy setup (with_incoming other also.incoming) also.between (outcome_of is.decision) y.fate b b_table =
+      subst (λ (d : Decision). ConcludesBy setup (with_incoming other also.incoming) also.between (outcome_of d) y.fate b b_table) decision also.concluded in
+      let over = one_conclusion laws.tables setup (outcome_of is.decision) x.fate y.fate (with_incoming old is.incoming) (with_incoming other also.incoming) a b is.between also.between a_table b_table before between is.concluded concluded in
+      let closed : closed_by x.fate ≡ closed_by y.fate =
+      concluded_fate setup (with_incoming old is.incoming) is.between (outcome_of is.decision) x.fate a a_table is.concluded
+      ∙ sym (concluded_fate setup (with_incoming other also.incoming) also.between (outcome_of is.decision) y.fate b b_table concluded) in
       record {
-        effect_is = ap (λ (z : Answered). effect.Replied z) (answered_alike x y octets over.child_is closed);
+        effect_is = ap (λ (z : Answered). effect.Replied z) (answered_alike x y octets (same_fate x.fate y.fate over.child_is closed));
         association = over.association;
         table = over.table;
       }
@@ -173,13 +177,16 @@ module _ (laws : Laws) (meaning : Meaning) (setup : Setup) (old other : Associat
       let judged : Judges meaning.accepts setup old.serial is.sent plain also.verdict = subst (λ (n : ℕ). Judges meaning.accepts setup n is.sent plain also.verdict) serial by_sent in
       let verdict : also.verdict ≡ is.verdict = sym (one_verdict laws.auth meaning.accepts setup old.serial is.sent laws.messages plain is.verdict also.verdict is.judged judged) in
       let before = one_counting number is.request also.request is.outgoing also.outgoing is.counted also.counted in
-      let concluded : ConcludesBy setup (with_outgoing other also.outgoing) another is.verdict y.child b b_table =
-      subst (λ (o : Outcome). ConcludesBy setup (with_outgoing other also.outgoing) another o y.child b b_table) verdict also.concluded in
-      let over = one_conclusion laws.tables setup is.verdict x.child y.child (with_outgoing old is.outgoing) (with_outgoing other also.outgoing) a b table another a_table b_table before alike is.concluded concluded in
-      let closed : x.closed ≡ y.closed = is.closed ∙ ap (λ (o : Outcome). is_closing o) (sym verdict) ∙ sym also.closed in
-      let declined : x.declined ≡ y.declined = one_declined plain x y over.child_is is.declined also.declined in
+      let concluded : ConcludesBy setup (with_outgoing other also.outgoing) another is.verdict y.fate b b_table =
+      subst (λ (o : Outcome). ConcludesBy setup (with_outgoing other also.outgoing) another o y.fate b b_table) verdict also.concluded in
+      let over = one_conclusion laws.tables setup is.verdict x.fate y.fate (with_outgoing old is.outgoing) (with_outgoing other also.outgoing) a b table another a_table b_table before alike is.concluded concluded in
+      let closed : closed_by x.fate ≡ closed_by y.fate =
+      concluded_fate setup (with_outgoing old is.outgoing) table is.verdict x.fate a a_table is.concluded
+      ∙ sym (concluded_fate setup (with_outgoing other also.outgoing) another is.verdict y.fate b b_table concluded) in
+      let came : x.fate ≡ y.fate = same_fate x.fate y.fate over.child_is closed in
+      let declined : x.declined ≡ y.declined = one_declined plain x y came is.declined also.declined in
       record {
-        effect_is = ap (λ (z : Ended). effect.Counted z) (ended_alike x y over.child_is closed declined);
+        effect_is = ap (λ (z : Ended). effect.Counted z) (ended_alike x y came declined);
         association = over.association;
         table = over.table;
       }
@@ -207,9 +214,9 @@ module _ (laws : Laws) (meaning : Meaning) (setup : Setup) (old other : Associat
       let concluded : ClosesIf (is_closing_verdict v) (gone_by v) (with_incoming other also.incoming) another setup.moment b b_table =
       subst (λ (u : Verdict). ClosesIf (is_closing_verdict u) (gone_by u) (with_incoming other also.incoming) another setup.moment b b_table) verdicts also.concluded in
       let over = one_closing laws.tables (is_closing_verdict v) (gone_by v) setup.moment (with_incoming old is.incoming) (with_incoming other also.incoming) a b table another a_table b_table before alike is.concluded concluded in
-      let closed : x.closed ≡ y.closed = is.closed ∙ ap is_closing_verdict (sym verdicts) ∙ sym also.closed in
+      let came : x.fate ≡ y.fate = is.fate ∙ ap (λ (u : Verdict). childless (is_closing_verdict u)) (sym verdicts) ∙ sym also.fate in
       record {
-        effect_is = ap (λ (z : Answered). effect.Replied z) (answered_alike x y octets (is.child ∙ sym also.child) closed);
+        effect_is = ap (λ (z : Answered). effect.Replied z) (answered_alike x y octets came);
         association = over.0;
         table = over.1;
       }
@@ -232,11 +239,10 @@ module _ (laws : Laws) (meaning : Meaning) (setup : Setup) (old other : Associat
       subst (λ (e : Bool). ClosesIf e (gone_with table.pairs old.serial is.request.purpose) (with_outgoing other also.outgoing) another setup.moment b b_table) ends
       (subst (λ (g : List ℕ). ClosesIf (is_ended also.payloads also.request.purpose) g (with_outgoing other also.outgoing) another setup.moment b b_table) gone also.concluded) in
       let over = one_closing laws.tables (is_ended is.payloads is.request.purpose) (gone_with table.pairs old.serial is.request.purpose) setup.moment (with_outgoing old is.outgoing) (with_outgoing other also.outgoing) a b table another a_table b_table before alike is.concluded concluded in
-      let closed : x.closed ≡ y.closed = is.closed ∙ sym ends ∙ sym also.closed in
-      let child : x.child ≡ y.child = is.child ∙ sym also.child in
-      let declined : x.declined ≡ y.declined = one_declined plain x y child is.declined also.declined in
+      let came : x.fate ≡ y.fate = is.fate ∙ ap childless (sym ends) ∙ sym also.fate in
+      let declined : x.declined ≡ y.declined = one_declined plain x y came is.declined also.declined in
       record {
-        effect_is = ap (λ (z : Ended). effect.Counted z) (ended_alike x y child closed declined);
+        effect_is = ap (λ (z : Ended). effect.Counted z) (ended_alike x y came declined);
         association = over.0;
         table = over.1;
       }
@@ -281,14 +287,16 @@ module _ (laws : Laws) (meaning : Meaning) (setup : Setup) (old other : Associat
       let octets : x.octets ≡ y.octets = one_sealing tells is.keys (whole is.keys (ap keys_in is.established)) CREATE_CHILD_SA number (answer is.decision) x.octets y.octets is.sealed sealed in
       let before = one_taking number x.octets y.octets is.ready also.ready is.incoming also.incoming octets is.prepared also.prepared is.taken also.taken in
       let between : table_content is.between ≡ table_content also.between = laws.tables.prepared table is.between is.room ∙ alike ∙ sym (laws.tables.prepared another also.between also.room) in
-      let concluded : ConcludesFurther (is_closing_decision is.decision) (further_pair is.decision) (with_incoming other also.incoming) also.between setup.moment y.child b b_table =
-      subst (λ (d : further.Decision). ConcludesFurther (is_closing_decision d) (further_pair d) (with_incoming other also.incoming) also.between setup.moment y.child b b_table) decision also.concluded in
-      let over = one_further_end laws.tables (is_closing_decision is.decision) None (further_pair is.decision) setup.moment x.child y.child (with_incoming old is.incoming) (with_incoming other also.incoming) a b is.between also.between a_table b_table before between
-      (answered_further (is_closing_decision is.decision) (further_pair is.decision) (with_incoming old is.incoming) is.between setup.moment x.child a a_table is.concluded)
-      (answered_further (is_closing_decision is.decision) (further_pair is.decision) (with_incoming other also.incoming) also.between setup.moment y.child b b_table concluded) in
-      let closed : x.closed ≡ y.closed = is.closed ∙ ap is_closing_decision (sym decision) ∙ sym also.closed in
+      let concluded : ConcludesFurther (is_closing_decision is.decision) (further_pair is.decision) (with_incoming other also.incoming) also.between setup.moment y.fate b b_table =
+      subst (λ (d : further.Decision). ConcludesFurther (is_closing_decision d) (further_pair d) (with_incoming other also.incoming) also.between setup.moment y.fate b b_table) decision also.concluded in
+      let over = one_further_end laws.tables (is_closing_decision is.decision) None (further_pair is.decision) setup.moment (made_by x.fate) (made_by y.fate) (with_incoming old is.incoming) (with_incoming other also.incoming) a b is.between also.between a_table b_table before between
+      (answered_further (is_closing_decision is.decision) (further_pair is.decision) (with_incoming old is.incoming) is.between setup.moment x.fate a a_table is.concluded)
+      (answered_further (is_closing_decision is.decision) (further_pair is.decision) (with_incoming other also.incoming) also.between setup.moment y.fate b b_table concluded) in
+      let closed : closed_by x.fate ≡ closed_by y.fate =
+      answered_fate (is_closing_decision is.decision) (further_pair is.decision) (with_incoming old is.incoming) is.between setup.moment x.fate a a_table is.concluded
+      ∙ sym (answered_fate (is_closing_decision is.decision) (further_pair is.decision) (with_incoming other also.incoming) also.between setup.moment y.fate b b_table concluded) in
       record {
-        effect_is = ap (λ (z : Answered). effect.Replied z) (answered_alike x y octets over.child_is closed);
+        effect_is = ap (λ (z : Answered). effect.Replied z) (answered_alike x y octets (same_fate x.fate y.fate over.child_is closed));
         association = over.association;
         table = over.table;
       }
@@ -310,17 +318,20 @@ module _ (laws : Laws) (meaning : Meaning) (setup : Setup) (old other : Associat
       let conclusion : also.conclusion ≡ is.conclusion =
       sym (laws.further.concluded setup.config.blocks old.serial is.keys (asked_of is.further.child) is.further.nonce plain is.conclusion also.conclusion is.concluded concluded) in
       let before = one_counting number is.request also.request is.outgoing also.outgoing is.counted also.counted in
-      let ends_by_asked : EndsFurther also.conclusion is.further.child.spi (with_outgoing other also.outgoing) another setup.moment y.child b b_table =
-      subst (λ (f : FurtherChild). EndsFurther also.conclusion f.child.spi (with_outgoing other also.outgoing) another setup.moment y.child b b_table) asked also.ends in
-      let ends : EndsFurther is.conclusion is.further.child.spi (with_outgoing other also.outgoing) another setup.moment y.child b b_table =
-      subst (λ (c : Conclusion). EndsFurther c is.further.child.spi (with_outgoing other also.outgoing) another setup.moment y.child b b_table) conclusion ends_by_asked in
-      let over = one_further_end laws.tables (is_closing_conclusion is.conclusion) (Some is.further.child.spi) (pair_made is.conclusion) setup.moment x.child y.child (with_outgoing old is.outgoing) (with_outgoing other also.outgoing) a b table another a_table b_table before alike
-      (counted_further is.conclusion is.further.child.spi (with_outgoing old is.outgoing) table setup.moment x.child a a_table is.ends)
-      (counted_further is.conclusion is.further.child.spi (with_outgoing other also.outgoing) another setup.moment y.child b b_table ends) in
-      let closed : x.closed ≡ y.closed = is.closed ∙ ap is_closing_conclusion (sym conclusion) ∙ sym also.closed in
-      let declined : x.declined ≡ y.declined = one_declined plain x y over.child_is is.declined also.declined in
+      let ends_by_asked : EndsFurther also.conclusion is.further.child.spi (with_outgoing other also.outgoing) another setup.moment y.fate b b_table =
+      subst (λ (f : FurtherChild). EndsFurther also.conclusion f.child.spi (with_outgoing other also.outgoing) another setup.moment y.fate b b_table) asked also.ends in
+      let ends : EndsFurther is.conclusion is.further.child.spi (with_outgoing other also.outgoing) another setup.moment y.fate b b_table =
+      subst (λ (c : Conclusion). EndsFurther c is.further.child.spi (with_outgoing other also.outgoing) another setup.moment y.fate b b_table) conclusion ends_by_asked in
+      let over = one_further_end laws.tables (is_closing_conclusion is.conclusion) (Some is.further.child.spi) (pair_made is.conclusion) setup.moment (made_by x.fate) (made_by y.fate) (with_outgoing old is.outgoing) (with_outgoing other also.outgoing) a b table another a_table b_table before alike
+      (counted_further is.conclusion is.further.child.spi (with_outgoing old is.outgoing) table setup.moment x.fate a a_table is.ends)
+      (counted_further is.conclusion is.further.child.spi (with_outgoing other also.outgoing) another setup.moment y.fate b b_table ends) in
+      let closed : closed_by x.fate ≡ closed_by y.fate =
+      counted_fate is.conclusion is.further.child.spi (with_outgoing old is.outgoing) table setup.moment x.fate a a_table is.ends
+      ∙ sym (counted_fate is.conclusion is.further.child.spi (with_outgoing other also.outgoing) another setup.moment y.fate b b_table ends) in
+      let came : x.fate ≡ y.fate = same_fate x.fate y.fate over.child_is closed in
+      let declined : x.declined ≡ y.declined = one_declined plain x y came is.declined also.declined in
       record {
-        effect_is = ap (λ (z : Ended). effect.Counted z) (ended_alike x y over.child_is closed declined);
+        effect_is = ap (λ (z : Ended). effect.Counted z) (ended_alike x y came declined);
         association = over.association;
         table = over.table;
       }

@@ -39,6 +39,8 @@ use Rattle.effects.specs.declared.taking.Effect.{Effect}
 use Rattle.effects.specs.declared.taking.Effect.TheVariants as effect
 use Rattle.effects.proofs.MapLemmas.{empty_has, insert_has, remove_has, same_has, EachHas}
 use Rattle.effects.proofs.WayLemmas.{answered_later, counted_later, way_of, Way}
+use Rattle.association.specs.Outcomes.{closed_by}
+use Rattle.association.specs.declared.outcome.Fate.{Fate}
 
 -- what is known of closings
 abbrev pub ClosingLaw : Type 0
@@ -89,10 +91,10 @@ established_since now p keys is = subst (λ (q : Phase). began q ≤ now) (sym i
 begun_by : (now : ℕ) (p q : Phase) → p ≡ q → began q ≤ now → began p ≤ now
 begun_by now p q same is = subst (λ (x : Phase). began x ≤ now) (sym same) is
 
-concluded_timely : ClosingLaw → (setup : Setup) (a : Association) (table : Database) (o : Outcome) (child : Option ℕ) (new : Association) (new_table : Database) (keys : KeyRecord)
-    → established_of a.phase ≡ phase.Established keys → ConcludesBy setup a table o child new new_table → AllWait setup.moment a.outgoing → IsInTime setup.moment new
-concluded_timely closing setup a table outcome.Closes child new new_table keys was is waits = closing setup.moment a new table new_table is.over
-concluded_timely closing setup a table (outcome.Establishes pair window) child new new_table keys was is waits =
+concluded_timely : ClosingLaw → (setup : Setup) (a : Association) (table : Database) (o : Outcome) (came : Fate) (new : Association) (new_table : Database) (keys : KeyRecord)
+    → established_of a.phase ≡ phase.Established keys → ConcludesBy setup a table o came new new_table → AllWait setup.moment a.outgoing → IsInTime setup.moment new
+concluded_timely closing setup a table outcome.Closes came new new_table keys was is waits = closing setup.moment a new table new_table is.over
+concluded_timely closing setup a table (outcome.Establishes pair window) came new new_table keys was is waits =
     by_parts setup.moment new
     (ap (λ (x : Association). is_over setup.moment x.phase) is.content ∙ established_on setup.moment (established_of a.phase) keys was)
     (begun_by setup.moment new.phase (established_of a.phase) (ap (λ (x : Association). x.phase) is.content) (established_since setup.moment (established_of a.phase) keys was))
@@ -109,18 +111,18 @@ way_timely closing meaning setup old table octets m (effect.Refused fault) new n
 way_timely closing meaning setup old table octets m (effect.Repeated reply) new new_table timely is = timely_as setup.moment old new is.same.association timely
 way_timely closing meaning setup old table octets m (effect.Replied answered) new new_table timely (inl is) =
     let d = is.done in
-    concluded_timely closing setup (with_incoming old d.incoming) d.between (outcome_of d.decision) answered.child new new_table d.opened.keys (ap established_of d.was) d.concluded (all_wait setup.moment old timely)
+    concluded_timely closing setup (with_incoming old d.incoming) d.between (outcome_of d.decision) answered.fate new new_table d.opened.keys (ap established_of d.was) d.concluded (all_wait setup.moment old timely)
 way_timely closing meaning setup old table octets m (effect.Replied answered) new new_table timely (inr is) =
     let d = answered_later meaning setup old table octets m answered new new_table is in
-    closed_if_timely closing answered.closed d.ends.serials (with_incoming old d.incoming) d.ends.before setup.moment new d.ends.after
+    closed_if_timely closing (closed_by answered.fate) d.ends.serials (with_incoming old d.incoming) d.ends.before setup.moment new d.ends.after
     (by_parts setup.moment (with_incoming old d.incoming) timely.nothing_due.held timely.begun.since (all_wait setup.moment old timely)) d.ends.is
 way_timely closing meaning setup old table octets m (effect.Counted ended) new new_table timely (inl is) =
     let d = is.done in
-    concluded_timely closing setup (with_outgoing old d.outgoing) table d.verdict ended.child new new_table d.sent.keys (ap established_of d.was) d.concluded
+    concluded_timely closing setup (with_outgoing old d.outgoing) table d.verdict ended.fate new new_table d.sent.keys (ap established_of d.was) d.concluded
     (counted_wait setup.moment old.outgoing m.header.id d.request d.outgoing d.counted (all_wait setup.moment old timely))
 way_timely closing meaning setup old table octets m (effect.Counted ended) new new_table timely (inr is) =
     let d = counted_later meaning setup old table octets m ended new new_table is in
-    closed_if_timely closing ended.closed d.ends.serials (with_outgoing old d.outgoing) d.ends.before setup.moment new d.ends.after
+    closed_if_timely closing (closed_by ended.fate) d.ends.serials (with_outgoing old d.outgoing) d.ends.before setup.moment new d.ends.after
     (by_parts setup.moment (with_outgoing old d.outgoing) timely.nothing_due.held timely.begun.since (counted_wait setup.moment old.outgoing m.header.id d.request d.outgoing d.counted (all_wait setup.moment old timely))) d.ends.is
 way_timely closing meaning setup old table octets m (effect.Again next) new new_table timely is =
     let d = is.done in

@@ -38,24 +38,26 @@ use Rattle.effects.specs.declared.taking.Effect.TheVariants as effect
 use Rattle.effects.proofs.OtherLemmas.{child_keeps, established_apart, room_keeps, IsKept}
 use Rattle.effects.proofs.WayLemmas.{answered_further, answered_later, counted_further, counted_later, pair_made, way_of, AnsweredFurther, CountedFurther, CountedInformational, FurtherIf, WasAsked, WasIdentified, Way}
 use Rattle.effects.proofs.HeldFacts.{GivenBack, HeldFacts}
+use Rattle.association.specs.Outcomes.{closed_by, made_by}
+use Rattle.association.specs.declared.outcome.Fate.{Fate}
 
 abbrev pub held_by : Association → Option ℕ
 held_by a = spi_in a.phase
 
-concluded_none : (setup : Setup) (old : Association) (table : Database) (o : Outcome) (child : Option ℕ) (new : Association) (new_table : Database)
-    → spi_in (established_of old.phase) ≡ None → ConcludesBy setup old table o child new new_table → held_by new ≡ None
-concluded_none setup old table outcome.Closes child new new_table none c = ap held_by c.over.content
-concluded_none setup old table (outcome.Establishes pair window) child new new_table none c = ap held_by c.content ∙ none
+concluded_none : (setup : Setup) (old : Association) (table : Database) (o : Outcome) (came : Fate) (new : Association) (new_table : Database)
+    → spi_in (established_of old.phase) ≡ None → ConcludesBy setup old table o came new new_table → held_by new ≡ None
+concluded_none setup old table outcome.Closes came new new_table none c = ap held_by c.over.content
+concluded_none setup old table (outcome.Establishes pair window) came new new_table none c = ap held_by c.content ∙ none
 
 answered_none : (prover : Prover) (setup : Setup) (old : Association) (table : Database) (number : ℕ) (plain : Plain) (a : Answered) (new : Association) (new_table : Database)
     → AnswersAuth prover setup old table number plain a new new_table → held_by new ≡ None
 answered_none prover setup old table number plain a new new_table is =
-    concluded_none setup (record old { incoming = is.incoming }) is.between (outcome_of is.decision) a.child new new_table (ap (λ p. spi_in (established_of p)) is.was) is.concluded
+    concluded_none setup (record old { incoming = is.incoming }) is.between (outcome_of is.decision) a.fate new new_table (ap (λ p. spi_in (established_of p)) is.was) is.concluded
 
 ended_none : (accepts : Accepts) (setup : Setup) (old : Association) (table : Database) (number : ℕ) (plain : Plain) (e : Ended) (new : Association) (new_table : Database)
     → EndsAuth accepts setup old table number plain e new new_table → held_by new ≡ None
 ended_none accepts setup old table number plain e new new_table is =
-    concluded_none setup (record old { outgoing = is.outgoing }) table is.verdict e.child new new_table (ap (λ p. spi_in (established_of p)) is.was) is.concluded
+    concluded_none setup (record old { outgoing = is.outgoing }) table is.verdict e.fate new new_table (ap (λ p. spi_in (established_of p)) is.was) is.concluded
 
 none_at_first : (number spi : ℕ) → AwaitsChild number_0_answered number spi → ⊥
 none_at_first number spi awaits = none-some awaits.request (sym (map.get-empty nat_cmp number) ∙ awaits.outstanding)
@@ -78,9 +80,9 @@ KeepsAwaited old new = (number spi : ℕ) → AwaitsChild new.outgoing number sp
 awaited_by : (old new : Association) → ((number : ℕ) → map.get new.outgoing.outstanding number ≡ map.get old.outgoing.outstanding number) → KeepsAwaited old new
 awaited_by old new same number spi awaits = record { request = awaits.request; outstanding = sym (same number) ∙ awaits.outstanding; reserved = awaits.reserved }
 
-concluded_awaited : HeldFacts → (setup : Setup) (a : Association) (table : Database) (o : Outcome) (child : Option ℕ) (new : Association) (new_table : Database) → ConcludesBy setup a table o child new new_table → KeepsAwaited a new
-concluded_awaited facts setup a table outcome.Closes child new new_table c number spi awaits = absurd (facts.closed a table setup.moment new new_table spi c.over (inr (record { number = number; awaits = awaits })))
-concluded_awaited facts setup a table (outcome.Establishes pair window) child new new_table c number spi awaits =
+concluded_awaited : HeldFacts → (setup : Setup) (a : Association) (table : Database) (o : Outcome) (came : Fate) (new : Association) (new_table : Database) → ConcludesBy setup a table o came new new_table → KeepsAwaited a new
+concluded_awaited facts setup a table outcome.Closes came new new_table c number spi awaits = absurd (facts.closed a table setup.moment new new_table spi c.over (inr (record { number = number; awaits = awaits })))
+concluded_awaited facts setup a table (outcome.Establishes pair window) came new new_table c number spi awaits =
     awaited_by a new (λ n. ap (λ (x : Association). map.get x.outgoing.outstanding n) c.content) number spi awaits
 
 closed_if_awaited : HeldFacts → (ending : Bool) (serials : List ℕ) (a : Association) (table : Database) (moment : ℕ) (new : Association) (new_table : Database) → ClosesIf ending serials a table moment new new_table → KeepsAwaited a new
@@ -99,11 +101,11 @@ apart_from_first : (old : Association) (table : Database) (new : Association) (s
 apart_from_first old table new spi none awaited holds (inl its) e = none-some spi (sym none ∙ its)
 apart_from_first old table new spi none awaited holds (inr awaits) e = holds.first spi e (record { number = awaits.number; awaits = awaited awaits.number spi awaits.awaits })
 
-concluded_reserved : HeldFacts → (setup : Setup) (a : Association) (table : Database) (o : Outcome) (child : Option ℕ) (new : Association) (new_table : Database) (spi : ℕ)
-    → ConcludesBy setup a table o child new new_table → HoldsSpi new spi → spi_in a.phase ≢ Some spi → IsKept table spi → IsReserved new_table spi
-concluded_reserved facts setup a table outcome.Closes child new new_table spi c held apart kept = absurd (facts.closed a table setup.moment new new_table spi c.over held)
-concluded_reserved facts setup a table (outcome.Establishes pair window) child new new_table spi c held apart kept =
-    (child_keeps table (established_spi a.phase) pair child new_table spi (established_apart a.phase spi apart) c.added kept).there
+concluded_reserved : HeldFacts → (setup : Setup) (a : Association) (table : Database) (o : Outcome) (came : Fate) (new : Association) (new_table : Database) (spi : ℕ)
+    → ConcludesBy setup a table o came new new_table → HoldsSpi new spi → spi_in a.phase ≢ Some spi → IsKept table spi → IsReserved new_table spi
+concluded_reserved facts setup a table outcome.Closes came new new_table spi c held apart kept = absurd (facts.closed a table setup.moment new new_table spi c.over held)
+concluded_reserved facts setup a table (outcome.Establishes pair window) came new new_table spi c held apart kept =
+    (child_keeps table (established_spi a.phase) pair (made_by came) new_table spi (established_apart a.phase spi apart) c.added kept).there
 
 closed_if_reserved : HeldFacts → (ending : Bool) (serials : List ℕ) (old a : Association) (table : Database) (moment : ℕ) (new : Association) (new_table : Database)
     → ClosesIf ending serials a table moment new new_table → KeepsReserved old table new new_table
@@ -133,8 +135,8 @@ answered_spis facts prover setup old table number plain a new new_table is =
     let taken : Association = record old { incoming = is.incoming } in
     record {
       first = first_none old new (answered_none prover setup old table number plain a new new_table is);
-      awaited = concluded_awaited facts setup taken is.between (outcome_of is.decision) a.child new new_table is.concluded;
-      reserved = λ given holds sound spi held there. concluded_reserved facts setup taken is.between (outcome_of is.decision) a.child new new_table spi is.concluded held
+      awaited = concluded_awaited facts setup taken is.between (outcome_of is.decision) a.fate new new_table is.concluded;
+      reserved = λ given holds sound spi held there. concluded_reserved facts setup taken is.between (outcome_of is.decision) a.fate new new_table spi is.concluded held
           (λ e. none-some spi (sym (ap spi_in is.was) ∙ e)) (room_keeps table is.between spi is.room (was_kept table spi sound there));
     }
 
@@ -144,11 +146,11 @@ ended_spis facts accepts setup old table number plain e new new_table is =
     let counted : Association = record old { outgoing = is.outgoing } in
     let none : held_by new ≡ None = ended_none accepts setup old table number plain e new new_table is in
     let awaited : KeepsAwaited old new = λ n spi awaits. facts.counting old.outgoing is.outgoing is.request number n spi is.counted
-    (concluded_awaited facts setup counted table is.verdict e.child new new_table is.concluded n spi awaits) in
+    (concluded_awaited facts setup counted table is.verdict e.fate new new_table is.concluded n spi awaits) in
     record {
       first = first_none old new none;
       awaited = awaited;
-      reserved = λ given holds sound spi held there. concluded_reserved facts setup counted table is.verdict e.child new new_table spi is.concluded held
+      reserved = λ given holds sound spi held there. concluded_reserved facts setup counted table is.verdict e.fate new new_table spi is.concluded held
           (apart_from_first old table new spi none awaited holds held) (was_kept table spi sound there);
     }
 
@@ -190,11 +192,11 @@ further_answered_spis facts meaning setup old table octets m a new new_table is 
     let later = answered_later meaning setup old table octets m a new new_table (inr is) in
     let taken : Association = record old { incoming = later.incoming } in
     record {
-      first = first_none old new (closed_if_none a.closed later.ends.serials taken later.ends.before setup.moment new later.ends.after (ap spi_in later.was) later.ends.is);
-      awaited = closed_if_awaited facts a.closed later.ends.serials taken later.ends.before setup.moment new later.ends.after later.ends.is;
+      first = first_none old new (closed_if_none (closed_by a.fate) later.ends.serials taken later.ends.before setup.moment new later.ends.after (ap spi_in later.was) later.ends.is);
+      awaited = closed_if_awaited facts (closed_by a.fate) later.ends.serials taken later.ends.before setup.moment new later.ends.after later.ends.is;
       reserved = λ given holds sound q held there.
-          further_if_reserved facts (is_closing_decision d.decision) None (further_pair d.decision) (record old { incoming = d.incoming }) d.between setup.moment a.child new new_table q
-          (answered_further (is_closing_decision d.decision) (further_pair d.decision) (record old { incoming = d.incoming }) d.between setup.moment a.child new new_table d.concluded)
+          further_if_reserved facts (is_closing_decision d.decision) None (further_pair d.decision) (record old { incoming = d.incoming }) d.between setup.moment (made_by a.fate) new new_table q
+          (answered_further (is_closing_decision d.decision) (further_pair d.decision) (record old { incoming = d.incoming }) d.between setup.moment a.fate new new_table d.concluded)
           held (λ own e. none-some q e) (room_keeps table d.between q d.room (was_kept table q sound there));
     }
 
@@ -205,12 +207,12 @@ further_counted_spis facts meaning setup old table octets m e new new_table is =
     let later = counted_later meaning setup old table octets m e new new_table (inr is) in
     let counted : Association = record old { outgoing = later.outgoing } in
     record {
-      first = first_none old new (closed_if_none e.closed later.ends.serials counted later.ends.before setup.moment new later.ends.after (ap spi_in later.was) later.ends.is);
+      first = first_none old new (closed_if_none (closed_by e.fate) later.ends.serials counted later.ends.before setup.moment new later.ends.after (ap spi_in later.was) later.ends.is);
       awaited = λ n spi awaits. facts.counting old.outgoing later.outgoing later.request m.header.id n spi later.counted
-          (closed_if_awaited facts e.closed later.ends.serials counted later.ends.before setup.moment new later.ends.after later.ends.is n spi awaits);
+          (closed_if_awaited facts (closed_by e.fate) later.ends.serials counted later.ends.before setup.moment new later.ends.after later.ends.is n spi awaits);
       reserved = λ given holds sound q held there.
-          further_if_reserved facts (is_closing_conclusion d.conclusion) (Some d.further.child.spi) (pair_made d.conclusion) (record old { outgoing = d.outgoing }) table setup.moment e.child new new_table q
-          (counted_further d.conclusion d.further.child.spi (record old { outgoing = d.outgoing }) table setup.moment e.child new new_table d.ends)
+          further_if_reserved facts (is_closing_conclusion d.conclusion) (Some d.further.child.spi) (pair_made d.conclusion) (record old { outgoing = d.outgoing }) table setup.moment (made_by e.fate) new new_table q
+          (counted_further d.conclusion d.further.child.spi (record old { outgoing = d.outgoing }) table setup.moment e.fate new new_table d.ends)
           held (λ own same. given old table m.header.id d.request d.outgoing q holds d.counted (ap spi_asked d.asked ∙ same) own) (was_kept table q sound there);
     }
 

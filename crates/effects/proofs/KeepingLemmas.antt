@@ -43,6 +43,8 @@ use Rattle.effects.specs.declared.taking.Effect.{Effect}
 use Rattle.effects.specs.declared.taking.Effect.TheVariants as effect
 use Rattle.effects.proofs.MapLemmas.{empty_has, insert_has, remove_has, same_has, same_item, some_none, EachHas}
 use Rattle.effects.proofs.WayLemmas.{answered_later, counted_later, way_of, AnsweredAuth, AnsweredLater, CountedAuth, CountedLater, WasAsked, WasIdentified, WasRepeated, Way}
+use Rattle.association.specs.Outcomes.{closed_by}
+use Rattle.association.specs.declared.outcome.Fate.{Fate}
 
 -- what is known of a request that comes again
 pub record RepeatFacts : Type 0 where
@@ -111,10 +113,10 @@ over_done a table moment new new_table is =
       keys = ap (λ (x : Association). keys_in x.phase) is.content;
     }
 
-concluded_done : (setup : Setup) (a : Association) (table : Database) (o : Outcome) (child : Option ℕ) (new : Association) (new_table : Database) (keys : KeyRecord)
-    → established_of a.phase ≡ phase.Established keys → ConcludesBy setup a table o child new new_table → IsDone a new
-concluded_done setup a table outcome.Closes child new new_table keys was c = over_done a table setup.moment new new_table c.over
-concluded_done setup a table (outcome.Establishes pair window) child new new_table keys was c =
+concluded_done : (setup : Setup) (a : Association) (table : Database) (o : Outcome) (came : Fate) (new : Association) (new_table : Database) (keys : KeyRecord)
+    → established_of a.phase ≡ phase.Established keys → ConcludesBy setup a table o came new new_table → IsDone a new
+concluded_done setup a table outcome.Closes came new new_table keys was c = over_done a table setup.moment new new_table c.over
+concluded_done setup a table (outcome.Establishes pair window) came new new_table keys was c =
     record {
       short = λ replies requests.
           short_as (widened setup.config.window window (established a)) new c.content
@@ -218,26 +220,26 @@ auth_answered_leaves : (meaning : Meaning) (setup : Setup) (old : Association) (
 auth_answered_leaves meaning setup old table octets m answered new new_table is =
     let d = is.done in
     replied_leaves old d.ready d.incoming m.header.id answered new d.opened.keys (ap keys_in d.was) d.sealed.whole.limit d.prepared d.taken
-    (concluded_done setup (record old { incoming = d.incoming }) d.between (outcome_of d.decision) answered.child new new_table d.opened.keys (ap established_of d.was) d.concluded)
+    (concluded_done setup (record old { incoming = d.incoming }) d.between (outcome_of d.decision) answered.fate new new_table d.opened.keys (ap established_of d.was) d.concluded)
 
 later_answered_leaves : (meaning : Meaning) (setup : Setup) (old : Association) (m : Message) (answered : Answered) (new : Association)
     → AnsweredLater meaning setup old m answered new → Leaves (effect.Replied answered) old new
 later_answered_leaves meaning setup old m answered new d =
     replied_leaves old d.ready d.incoming m.header.id answered new d.keys (ap keys_in d.was) d.sealed.whole.limit d.prepared d.taken
-    (closed_if_done answered.closed d.ends.serials (record old { incoming = d.incoming }) d.ends.before setup.moment new d.ends.after d.keys d.was d.ends.is)
+    (closed_if_done (closed_by answered.fate) d.ends.serials (record old { incoming = d.incoming }) d.ends.before setup.moment new d.ends.after d.keys d.was d.ends.is)
 
 auth_counted_leaves : (meaning : Meaning) (setup : Setup) (old : Association) (table : Database) (octets : Octets) (m : Message) (ended : Ended) (new : Association) (new_table : Database)
     → CountedAuth meaning setup old table octets m ended new new_table → Leaves (effect.Counted ended) old new
 auth_counted_leaves meaning setup old table octets m ended new new_table is =
     let d = is.done in
     counted_leaves old m.header.id d.request d.outgoing ended new d.sent.keys (ap keys_in d.was) d.counted
-    (concluded_done setup (record old { outgoing = d.outgoing }) table d.verdict ended.child new new_table d.sent.keys (ap established_of d.was) d.concluded)
+    (concluded_done setup (record old { outgoing = d.outgoing }) table d.verdict ended.fate new new_table d.sent.keys (ap established_of d.was) d.concluded)
 
 later_counted_leaves : (setup : Setup) (old : Association) (m : Message) (ended : Ended) (new : Association)
     → CountedLater setup old m ended new → Leaves (effect.Counted ended) old new
 later_counted_leaves setup old m ended new d =
     counted_leaves old m.header.id d.request d.outgoing ended new d.keys (ap keys_in d.was) d.counted
-    (closed_if_done ended.closed d.ends.serials (record old { outgoing = d.outgoing }) d.ends.before setup.moment new d.ends.after d.keys d.was d.ends.is)
+    (closed_if_done (closed_by ended.fate) d.ends.serials (record old { outgoing = d.outgoing }) d.ends.before setup.moment new d.ends.after d.keys d.was d.ends.is)
 
 -- an IKE SA that waits for the response to IKE_SA_INIT has no keys
 no_keys : (old : Association) (p : Phase) (sent : InitSent) (keys : KeyRecord) → old.phase ≡ phase.InitSent sent → keys_in old.phase ≡ Some keys → keys_in p ≡ Some keys

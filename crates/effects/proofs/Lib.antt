@@ -6,6 +6,7 @@ mod HeldSpiLemmas
 mod OrderSpiLemmas
 mod OtherLemmas
 mod ProvingLemmas
+mod FateLemmas
 mod WayLemmas
 mod KeepingLemmas
 mod ExchangeLemmas

@@ -72,6 +72,8 @@ use Rattle.initial.specs.Deciding.{own_proving, AcceptsAuth, IsDecision}
 use Rattle.exchange.specs.Chains.{IsRead}
 use Rattle.initial.specs.Ending.{IsVerdict}
 use Rattle.association.specs.Sending.{request_message}
+use Rattle.deletions.specs.Deciding.{is_closing_verdict, verdict_on}
+use Rattle.informational.specs.Counting.{is_ended}
 use Rattle.informational.specs.Orders.{ClosesIf}
 use Rattle.effects.specs.Keeping.{child_in}
 use Rattle.effects.specs.Pairs.{IsUnused, LeavesPairs}
@@ -90,6 +92,9 @@ use Rattle.effects.proofs.PairLemmas.{answer_unused, end_unused, further_unused,
 use Rattle.effects.proofs.PayloadLemmas.{answer_has, request_has}
 use Rattle.effects.proofs.SpiLemmas.{pairs_left}
 use Rattle.effects.proofs.WayLemmas.{answered_further, answered_later, counted_further, counted_later, pair_made, way_of, AnsweredAuth, AnsweredFurther, CountedAuth, CountedFurther, FurtherIf, WasIdentified, Way}
+use Rattle.association.specs.Outcomes.{closed_by, made_by}
+use Rattle.association.specs.declared.outcome.Fate.{Fate}
+use Rattle.effects.proofs.FateLemmas.{childless_made}
 
 -- what the crates below say of Child SAs, and of what a message is
 pub record ChildFacts : Type 0 where
@@ -188,11 +193,11 @@ record HasChild (a : Association) (table : Database) (o : Outcome) (serial : ℕ
   in_order : serial ≡ table.next
   there : pair_at new_table.pairs serial ≡ Some (record pair { serial = serial })
 
-concluded_child : (setup : Setup) (a : Association) (table : Database) (o : Outcome) (child : Option ℕ) (serial : ℕ) (new : Association) (new_table : Database) → child ≡ Some serial
-    → ConcludesBy setup a table o child new new_table → HasChild a table o serial new new_table
-concluded_child setup a table outcome.Closes child serial new new_table e c = absurd (none_some serial (sym c.none ∙ e))
-concluded_child setup a table (outcome.Establishes pair window) child serial new new_table e c =
-    let added = child_adds table (established_spi a.phase) pair child serial new_table e c.added in
+concluded_child : (setup : Setup) (a : Association) (table : Database) (o : Outcome) (came : Fate) (serial : ℕ) (new : Association) (new_table : Database) → made_by came ≡ Some serial
+    → ConcludesBy setup a table o came new new_table → HasChild a table o serial new new_table
+concluded_child setup a table outcome.Closes came serial new new_table e c = absurd (none_some serial (sym (ap made_by c.closed) ∙ e))
+concluded_child setup a table (outcome.Establishes pair window) came serial new new_table e c =
+    let added = child_adds table (established_spi a.phase) pair (made_by came) serial new_table e c.added in
     record {
       pair = added.one;
       window = window;
@@ -281,12 +286,12 @@ answered_child facts own_method proof_of accepts setup ike opened table plain d 
     (subst (λ (p : Pair). IsAnsweredChild First setup opened.keys is.request reply (with_serial serial p)) is.same made)
 
 replied_makes : (facts : ChildFacts) (meaning : Meaning) (setup : Setup) (old : Association) (table : Database) (octets : Octets) (m : Message) (answered : Answered) (serial : ℕ) (new : Association) (new_table : Database)
-    → answered.child ≡ Some serial → TakesMessage meaning setup old table octets m (effect.Replied answered) new new_table → AnsweredAuth meaning setup old table octets m answered new new_table
+    → made_by answered.fate ≡ Some serial → TakesMessage meaning setup old table octets m (effect.Replied answered) new new_table → AnsweredAuth meaning setup old table octets m answered new new_table
     → MakesChild meaning setup old table octets m (effect.Replied answered) serial new new_table
 replied_makes facts meaning setup old table octets m answered serial new new_table e takes is =
     let d = is.done in
     let c : HasChild (record old { incoming = d.incoming }) d.between (outcome_of d.decision) serial new new_table =
-    concluded_child setup (record old { incoming = d.incoming }) d.between (outcome_of d.decision) answered.child serial new new_table e d.concluded in
+    concluded_child setup (record old { incoming = d.incoming }) d.between (outcome_of d.decision) answered.fate serial new new_table e d.concluded in
     let decides : DecidesChild meaning.accepts setup old.serial d.opened table is.plain d.decision c.pair =
     decided_child meaning.accepts setup old.serial d.opened table is.plain d.decided.payloads d.decision c.pair c.window c.outcome_is d.decided.read d.decided.due in
     let unused : UnusedBy old.serial (outcome.Establishes (Some c.pair) c.window) =
@@ -349,12 +354,12 @@ asked_child facts setup ike sent plain pair serial small is =
 
 counted_makes : (facts : ChildFacts) (meaning : Meaning) (setup : Setup) (old : Association) (table : Database) (octets : Octets) (m : Message) (ended : Ended) (serial : ℕ) (new : Association) (new_table : Database)
     → IsSoundTable table → IsSoundlyHeld old → HoldsReserved old table
-    → ended.child ≡ Some serial → TakesMessage meaning setup old table octets m (effect.Counted ended) new new_table → CountedAuth meaning setup old table octets m ended new new_table
+    → made_by ended.fate ≡ Some serial → TakesMessage meaning setup old table octets m (effect.Counted ended) new new_table → CountedAuth meaning setup old table octets m ended new new_table
     → MakesChild meaning setup old table octets m (effect.Counted ended) serial new new_table
 counted_makes facts meaning setup old table octets m ended serial new new_table sound held holds e takes is =
     let d = is.done in
     let c : HasChild (record old { outgoing = d.outgoing }) table d.verdict serial new new_table =
-    concluded_child setup (record old { outgoing = d.outgoing }) table d.verdict ended.child serial new new_table e d.concluded in
+    concluded_child setup (record old { outgoing = d.outgoing }) table d.verdict ended.fate serial new new_table e d.concluded in
     let accepts : AcceptsChild setup old.serial d.sent is.plain c.pair =
     accepted_child meaning.accepts setup old.serial d.sent is.plain d.judged.payloads c.pair c.window d.judged.read
     (subst (λ (o : Outcome). IsVerdict meaning.accepts setup old.serial d.sent d.judged.payloads o) c.outcome_is d.judged.due) in
@@ -442,14 +447,14 @@ decided_asks setup ike keys table deleting plain None made read due = absurd due
 decided_asks setup ike keys table deleting plain (Some request) made read due = judged_asks setup ike keys table deleting plain request due.judgement made read due.judged due.due
 
 further_replied_makes : (facts : ChildFacts) (laws : FurtherFacts) (meaning : Meaning) (setup : Setup) (old : Association) (table : Database) (octets : Octets) (m : Message) (answered : Answered) (serial : ℕ) (new : Association) (new_table : Database)
-    → answered.child ≡ Some serial → TakesMessage meaning setup old table octets m (effect.Replied answered) new new_table → AnsweredFurther meaning setup old table octets m answered new new_table
+    → made_by answered.fate ≡ Some serial → TakesMessage meaning setup old table octets m (effect.Replied answered) new new_table → AnsweredFurther meaning setup old table octets m answered new new_table
     → MakesChild meaning setup old table octets m (effect.Replied answered) serial new new_table
 further_replied_makes facts laws meaning setup old table octets m answered serial new new_table e takes is =
     let d = is.done in
     let taken : Association = record old { incoming = d.incoming } in
     let c : GivesChild (further_pair d.decision) taken d.between serial new new_table =
-    gives_child (is_closing_decision d.decision) None (further_pair d.decision) taken d.between setup.moment answered.child serial new new_table e
-    (answered_further (is_closing_decision d.decision) (further_pair d.decision) taken d.between setup.moment answered.child new new_table d.concluded) in
+    gives_child (is_closing_decision d.decision) None (further_pair d.decision) taken d.between setup.moment (made_by answered.fate) serial new new_table e
+    (answered_further (is_closing_decision d.decision) (further_pair d.decision) taken d.between setup.moment answered.fate new new_table d.concluded) in
     let by = made_by_decision d.decision c.one c.is in
     let made : DecidesFurther setup old.serial d.keys table d.deleting is.plain (decided.Made by.made) =
     subst (λ (x : further.Decision). DecidesFurther setup old.serial d.keys table d.deleting is.plain x) by.is d.decided in
@@ -504,7 +509,7 @@ accepts_further blocks ike keys asked own_nonce plain (Some reply) pair read due
 
 further_counted_makes : (facts : ChildFacts) (laws : FurtherFacts) (meaning : Meaning) (setup : Setup) (old : Association) (table : Database) (octets : Octets) (m : Message) (ended : Ended) (serial : ℕ) (new : Association) (new_table : Database)
     → IsSoundTable table → IsSoundlyHeld old → HoldsReserved old table
-    → ended.child ≡ Some serial → TakesMessage meaning setup old table octets m (effect.Counted ended) new new_table → CountedFurther meaning setup old table octets m ended new new_table
+    → made_by ended.fate ≡ Some serial → TakesMessage meaning setup old table octets m (effect.Counted ended) new new_table → CountedFurther meaning setup old table octets m ended new new_table
     → MakesChild meaning setup old table octets m (effect.Counted ended) serial new new_table
 further_counted_makes facts laws meaning setup old table octets m ended serial new new_table sound held holds e takes is =
     let d = is.done in
@@ -512,8 +517,8 @@ further_counted_makes facts laws meaning setup old table octets m ended serial n
     let asked : Asked = asked_of d.further.child in
     let counted : Association = record old { outgoing = d.outgoing } in
     let c : GivesChild (pair_made d.conclusion) counted table serial new new_table =
-    gives_child (is_closing_conclusion d.conclusion) (Some spi) (pair_made d.conclusion) counted table setup.moment ended.child serial new new_table e
-    (counted_further d.conclusion spi counted table setup.moment ended.child new new_table d.ends) in
+    gives_child (is_closing_conclusion d.conclusion) (Some spi) (pair_made d.conclusion) counted table setup.moment (made_by ended.fate) serial new new_table e
+    (counted_further d.conclusion spi counted table setup.moment ended.fate new new_table d.ends) in
     let made : Concludes setup.config.blocks old.serial d.keys asked d.further.nonce is.plain (conclusion.Made c.one) =
     subst (λ (x : Conclusion). Concludes setup.config.blocks old.serial d.keys asked d.further.nonce is.plain x) (made_by_conclusion d.conclusion c.one c.is) d.concluded in
     let accepts = accepts_further setup.config.blocks old.serial d.keys asked d.further.nonce is.plain made.payloads c.one made.read made.due in
@@ -554,11 +559,11 @@ way_makes : (facts : ChildFacts) (laws : FurtherFacts) (meaning : Meaning) (setu
 way_makes facts laws meaning setup old table octets m (effect.Refused fault) serial new new_table sound held holds named takes is = absurd (none_some serial named)
 way_makes facts laws meaning setup old table octets m (effect.Repeated reply) serial new new_table sound held holds named takes is = absurd (none_some serial named)
 way_makes facts laws meaning setup old table octets m (effect.Replied answered) serial new new_table sound held holds named takes (inl is) = replied_makes facts meaning setup old table octets m answered serial new new_table named takes is
-way_makes facts laws meaning setup old table octets m (effect.Replied answered) serial new new_table sound held holds named takes (inr (inl is)) = absurd (none_some serial (sym is.done.child ∙ named))
+way_makes facts laws meaning setup old table octets m (effect.Replied answered) serial new new_table sound held holds named takes (inr (inl is)) = absurd (none_some serial (sym (ap made_by is.done.fate ∙ childless_made (is_closing_verdict (verdict_on table.pairs old.serial is.done.payloads))) ∙ named))
 way_makes facts laws meaning setup old table octets m (effect.Again next) serial new new_table sound held holds named takes is = absurd (none_some serial named)
 way_makes facts laws meaning setup old table octets m (effect.AsksAuth next) serial new new_table sound held holds named takes is = absurd (none_some serial named)
 way_makes facts laws meaning setup old table octets m (effect.Counted ended) serial new new_table sound held holds named takes (inl is) = counted_makes facts meaning setup old table octets m ended serial new new_table sound held holds named takes is
-way_makes facts laws meaning setup old table octets m (effect.Counted ended) serial new new_table sound held holds named takes (inr (inl is)) = absurd (none_some serial (sym is.done.child ∙ named))
+way_makes facts laws meaning setup old table octets m (effect.Counted ended) serial new new_table sound held holds named takes (inr (inl is)) = absurd (none_some serial (sym (ap made_by is.done.fate ∙ childless_made (is_ended is.done.payloads is.done.request.purpose)) ∙ named))
 way_makes facts laws meaning setup old table octets m (effect.Replied answered) serial new new_table sound held holds named takes (inr (inr is)) = further_replied_makes facts laws meaning setup old table octets m answered serial new new_table named takes is
 way_makes facts laws meaning setup old table octets m (effect.Counted ended) serial new new_table sound held holds named takes (inr (inr is)) = further_counted_makes facts laws meaning setup old table octets m ended serial new new_table sound held holds named takes is
 
@@ -620,11 +625,11 @@ established_waits keys sent e = cc
 initial_waits : (waiting : InitSent) (sent : AuthSent) → phase.InitSent waiting ≡ phase.AuthSent sent → ⊥
 initial_waits waiting sent e = cc
 
-concluded_waits : (setup : Setup) (a : Association) (table : Database) (o : Outcome) (child : Option ℕ) (new : Association) (new_table : Database) (keys : KeyRecord) (sent : AuthSent)
-    → established_of a.phase ≡ phase.Established keys → ConcludesBy setup a table o child new new_table → new.phase ≡ phase.AuthSent sent → ⊥
-concluded_waits setup a table outcome.Closes child new new_table keys sent was c waits =
+concluded_waits : (setup : Setup) (a : Association) (table : Database) (o : Outcome) (came : Fate) (new : Association) (new_table : Database) (keys : KeyRecord) (sent : AuthSent)
+    → established_of a.phase ≡ phase.Established keys → ConcludesBy setup a table o came new new_table → new.phase ≡ phase.AuthSent sent → ⊥
+concluded_waits setup a table outcome.Closes came new new_table keys sent was c waits =
     closed_waits (keys_in a.phase) setup.moment sent (sym (ap (λ (x : Association). x.phase) c.over.content) ∙ waits)
-concluded_waits setup a table (outcome.Establishes pair window) child new new_table keys sent was c waits =
+concluded_waits setup a table (outcome.Establishes pair window) came new new_table keys sent was c waits =
     established_waits keys sent (sym was ∙ sym (ap (λ (x : Association). x.phase) c.content) ∙ waits)
 
 closed_if_waits : (ending : Bool) (serials : List ℕ) (a : Association) (table : Database) (moment : ℕ) (new : Association) (new_table : Database) (keys : KeyRecord) (sent : AuthSent)
@@ -643,19 +648,19 @@ way_waits meaning setup old table octets m (effect.Refused fault) new new_table 
 way_waits meaning setup old table octets m (effect.Repeated reply) new new_table sent waits is = inl (sym (ap (λ (x : Association). x.phase) is.same.association) ∙ waits)
 way_waits meaning setup old table octets m (effect.Replied answered) new new_table sent waits (inl is) =
     let d = is.done in
-    absurd (concluded_waits setup (record old { incoming = d.incoming }) d.between (outcome_of d.decision) answered.child new new_table d.opened.keys sent (ap established_of d.was) d.concluded waits)
+    absurd (concluded_waits setup (record old { incoming = d.incoming }) d.between (outcome_of d.decision) answered.fate new new_table d.opened.keys sent (ap established_of d.was) d.concluded waits)
 way_waits meaning setup old table octets m (effect.Replied answered) new new_table sent waits (inr is) =
     let d = answered_later meaning setup old table octets m answered new new_table is in
-    absurd (closed_if_waits answered.closed d.ends.serials (with_incoming old d.incoming) d.ends.before setup.moment new d.ends.after d.keys sent d.was d.ends.is waits)
+    absurd (closed_if_waits (closed_by answered.fate) d.ends.serials (with_incoming old d.incoming) d.ends.before setup.moment new d.ends.after d.keys sent d.was d.ends.is waits)
 way_waits meaning setup old table octets m (effect.Again next) new new_table sent waits is =
     absurd (initial_waits (record is.sent { cookie = Some is.cookie; cookies_taken = is.sent.cookies_taken + 1 }) sent (sym (ap (λ (x : Association). x.phase) is.done.content) ∙ waits))
 way_waits meaning setup old table octets m (effect.AsksAuth next) new new_table sent waits is = inr (record { octets = next; is = refl })
 way_waits meaning setup old table octets m (effect.Counted ended) new new_table sent waits (inl is) =
     let d = is.done in
-    absurd (concluded_waits setup (record old { outgoing = d.outgoing }) table d.verdict ended.child new new_table d.sent.keys sent (ap established_of d.was) d.concluded waits)
+    absurd (concluded_waits setup (record old { outgoing = d.outgoing }) table d.verdict ended.fate new new_table d.sent.keys sent (ap established_of d.was) d.concluded waits)
 way_waits meaning setup old table octets m (effect.Counted ended) new new_table sent waits (inr is) =
     let d = counted_later meaning setup old table octets m ended new new_table is in
-    absurd (closed_if_waits ended.closed d.ends.serials (with_outgoing old d.outgoing) d.ends.before setup.moment new d.ends.after d.keys sent d.was d.ends.is waits)
+    absurd (closed_if_waits (closed_by ended.fate) d.ends.serials (with_outgoing old d.outgoing) d.ends.before setup.moment new d.ends.after d.keys sent d.was d.ends.is waits)
 
 pub waits_for_child : (meaning : Meaning) (setup : Setup) (old : Association) (table : Database) (octets : Octets) (m : Message) (e : Effect) (new : Association) (new_table : Database) (sent : AuthSent)
     → new.phase ≡ phase.AuthSent sent → TakesMessage meaning setup old table octets m e new new_table → (old.phase ≡ phase.AuthSent sent) ⊎ IsAsking e
@@ -671,10 +676,10 @@ concluded_asks (phase.HalfOpen opened) child is asks = absurd cc
 concluded_asks (phase.Established keys) child is asks = absurd cc
 concluded_asks (phase.Closed keys at) child is asks = absurd cc
 
-concluded_by : (setup : Setup) (a : Association) (table : Database) (o : Outcome) (child : Option ℕ) (new : Association) (new_table : Database) (keys : KeyRecord)
-    → established_of a.phase ≡ phase.Established keys → ConcludesBy setup a table o child new new_table → is_concluded new.phase ≡ true
-concluded_by setup a table outcome.Closes child new new_table keys was c = ap (λ (x : Association). is_concluded x.phase) c.over.content
-concluded_by setup a table (outcome.Establishes pair window) child new new_table keys was c = ap (λ (x : Association). is_concluded x.phase) c.content ∙ ap is_concluded was
+concluded_by : (setup : Setup) (a : Association) (table : Database) (o : Outcome) (came : Fate) (new : Association) (new_table : Database) (keys : KeyRecord)
+    → established_of a.phase ≡ phase.Established keys → ConcludesBy setup a table o came new new_table → is_concluded new.phase ≡ true
+concluded_by setup a table outcome.Closes came new new_table keys was c = ap (λ (x : Association). is_concluded x.phase) c.over.content
+concluded_by setup a table (outcome.Establishes pair window) came new new_table keys was c = ap (λ (x : Association). is_concluded x.phase) c.content ∙ ap is_concluded was
 
 concluded_if : (ending : Bool) (serials : List ℕ) (a : Association) (table : Database) (moment : ℕ) (new : Association) (new_table : Database) (keys : KeyRecord)
     → a.phase ≡ phase.Established keys → ClosesIf ending serials a table moment new new_table → is_concluded new.phase ≡ true
@@ -687,20 +692,20 @@ way_asked meaning setup old table octets m (effect.Refused fault) new new_table 
 way_asked meaning setup old table octets m (effect.Repeated reply) new new_table child asks is = sym (ap (λ (x : Association). first_asked x.phase) is.same.association) ∙ asks
 way_asked meaning setup old table octets m (effect.Replied answered) new new_table child asks (inl is) =
     let d = is.done in
-    absurd (concluded_asks new.phase child (concluded_by setup (with_incoming old d.incoming) d.between (outcome_of d.decision) answered.child new new_table d.opened.keys (ap established_of d.was) d.concluded) asks)
+    absurd (concluded_asks new.phase child (concluded_by setup (with_incoming old d.incoming) d.between (outcome_of d.decision) answered.fate new new_table d.opened.keys (ap established_of d.was) d.concluded) asks)
 way_asked meaning setup old table octets m (effect.Replied answered) new new_table child asks (inr is) =
     let d = answered_later meaning setup old table octets m answered new new_table is in
-    absurd (concluded_asks new.phase child (concluded_if answered.closed d.ends.serials (with_incoming old d.incoming) d.ends.before setup.moment new d.ends.after d.keys d.was d.ends.is) asks)
+    absurd (concluded_asks new.phase child (concluded_if (closed_by answered.fate) d.ends.serials (with_incoming old d.incoming) d.ends.before setup.moment new d.ends.after d.keys d.was d.ends.is) asks)
 way_asked meaning setup old table octets m (effect.Again next) new new_table child asks is =
     ap first_asked is.was ∙ sym (ap (λ (x : Association). first_asked x.phase) is.done.content) ∙ asks
 way_asked meaning setup old table octets m (effect.AsksAuth next) new new_table child asks is =
     ap first_asked is.was ∙ sym (ap (λ (x : Association). first_asked x.phase) is.done.content) ∙ asks
 way_asked meaning setup old table octets m (effect.Counted ended) new new_table child asks (inl is) =
     let d = is.done in
-    absurd (concluded_asks new.phase child (concluded_by setup (with_outgoing old d.outgoing) table d.verdict ended.child new new_table d.sent.keys (ap established_of d.was) d.concluded) asks)
+    absurd (concluded_asks new.phase child (concluded_by setup (with_outgoing old d.outgoing) table d.verdict ended.fate new new_table d.sent.keys (ap established_of d.was) d.concluded) asks)
 way_asked meaning setup old table octets m (effect.Counted ended) new new_table child asks (inr is) =
     let d = counted_later meaning setup old table octets m ended new new_table is in
-    absurd (concluded_asks new.phase child (concluded_if ended.closed d.ends.serials (with_outgoing old d.outgoing) d.ends.before setup.moment new d.ends.after d.keys d.was d.ends.is) asks)
+    absurd (concluded_asks new.phase child (concluded_if (closed_by ended.fate) d.ends.serials (with_outgoing old d.outgoing) d.ends.before setup.moment new d.ends.after d.keys d.was d.ends.is) asks)
 
 pub asked_before : (meaning : Meaning) (setup : Setup) (old : Association) (table : Database) (octets : Octets) (m : Message) (e : Effect) (new : Association) (new_table : Database) (child : AskedChildView)
     → first_asked new.phase ≡ Some child → TakesMessage meaning setup old table octets m e new new_table → first_asked old.phase ≡ Some child

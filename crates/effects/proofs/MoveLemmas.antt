@@ -59,6 +59,9 @@ use Rattle.effects.specs.declared.taking.Effect.TheVariants as effect
 use Rattle.effects.proofs.KeepingLemmas.{established_keys}
 use Rattle.effects.proofs.RequestLemmas.{came, counted_window, decided_window, inserted, judged_window, repeated_why, taken_size, yes_no, TellsWindow, Windows}
 use Rattle.effects.proofs.WayLemmas.{answered_later, counted_later, way_of, Way}
+use Rattle.association.specs.Outcomes.{closed_by}
+use Rattle.association.specs.declared.outcome.Fate.{Fate}
+use Rattle.effects.proofs.FateLemmas.{concluded_fate}
 
 -- ---- ledgers
 
@@ -222,10 +225,10 @@ record AwaitsWindows (setup : Setup) (role : Role) (number : ℕ) (a : Associati
   configured : IsWindow setup.config.window
   tells : TellsWindow o
 
-concluded_ends : (setup : Setup) (role : Role) (number : ℕ) (a : Association) (keys : KeyRecord) (table : Database) (o : Outcome) (child : Option ℕ) (new : Association) (new_table : Database)
-    → AwaitsWindows setup role number a o → keys_in a.phase ≡ Some keys → is_closed a.phase ≡ false → ConcludesBy setup a table o child new new_table → EndsAs (is_closing o) role number (ledger_of a keys) (ledger new)
-concluded_ends setup role number a keys table outcome.Closes child new new_table windows are is_open is = over_ends role number a keys table setup.moment new new_table are is_open is.over
-concluded_ends setup role number a keys table (outcome.Establishes pair window) child new new_table windows are is_open is =
+concluded_ends : (setup : Setup) (role : Role) (number : ℕ) (a : Association) (keys : KeyRecord) (table : Database) (o : Outcome) (came : Fate) (new : Association) (new_table : Database)
+    → AwaitsWindows setup role number a o → keys_in a.phase ≡ Some keys → is_closed a.phase ≡ false → ConcludesBy setup a table o came new new_table → EndsAs (is_closing o) role number (ledger_of a keys) (ledger new)
+concluded_ends setup role number a keys table outcome.Closes came new new_table windows are is_open is = over_ends role number a keys table setup.moment new new_table are is_open is.over
+concluded_ends setup role number a keys table (outcome.Establishes pair window) came new new_table windows are is_open is =
     let l = ledger_of a keys in
     let size = max setup.config.window a.incoming.size in
     let peers = max window a.outgoing.window in
@@ -329,19 +332,19 @@ way_moves windows meaning setup old table octets m (effect.Replied answered) new
       configured = config.window;
       tells = decided_window windows meaning.accepts setup old.serial d.opened table d.decided.payloads d.decision d.decided.due;
     } in
-    from_keys (and_closes (TakeEffect m.header.id answered.octets) answered.closed) old keys (ledger new) (ap keys_in d.was)
-    (taken_leads answered.closed m.header.id answered.octets (ledger_of old keys) (ledger_of (with_incoming old d.incoming) keys) (ledger new)
+    from_keys (and_closes (TakeEffect m.header.id answered.octets) (closed_by answered.fate)) old keys (ledger new) (ap keys_in d.was)
+    (taken_leads (closed_by answered.fate) m.header.id answered.octets (ledger_of old keys) (ledger_of (with_incoming old d.incoming) keys) (ledger new)
     (taken_moves old keys d.ready d.incoming m.header.id answered.octets is_open d.prepared d.taken) size refl
-    (subst (λ (b : Bool). EndsAs b Responder m.header.id (ledger_of (with_incoming old d.incoming) keys) (ledger new)) (sym d.closed)
-    (concluded_ends setup Responder m.header.id (with_incoming old d.incoming) keys d.between (outcome_of d.decision) answered.child new new_table awaits (ap keys_in d.was) is_open d.concluded)))
+    (subst (λ (b : Bool). EndsAs b Responder m.header.id (ledger_of (with_incoming old d.incoming) keys) (ledger new)) (sym (concluded_fate setup (with_incoming old d.incoming) d.between (outcome_of d.decision) answered.fate new new_table d.concluded))
+    (concluded_ends setup Responder m.header.id (with_incoming old d.incoming) keys d.between (outcome_of d.decision) answered.fate new new_table awaits (ap keys_in d.was) is_open d.concluded)))
 way_moves windows meaning setup old table octets m (effect.Replied answered) new new_table held config (inr is) =
     let d = answered_later meaning setup old table octets m answered new new_table is in
     let is_open : is_closed old.phase ≡ false = ap is_closed d.was in
-    from_keys (and_closes (TakeEffect m.header.id answered.octets) answered.closed) old d.keys (ledger new) (ap keys_in d.was)
-    (taken_leads answered.closed m.header.id answered.octets (ledger_of old d.keys) (ledger_of (with_incoming old d.incoming) d.keys) (ledger new)
+    from_keys (and_closes (TakeEffect m.header.id answered.octets) (closed_by answered.fate)) old d.keys (ledger new) (ap keys_in d.was)
+    (taken_leads (closed_by answered.fate) m.header.id answered.octets (ledger_of old d.keys) (ledger_of (with_incoming old d.incoming) d.keys) (ledger new)
     (taken_moves old d.keys d.ready d.incoming m.header.id answered.octets is_open d.prepared d.taken)
     (taken_size old.incoming d.ready m.header.id answered.octets d.incoming d.prepared d.taken) refl
-    (closed_if_ends Responder m.header.id answered.closed d.ends.serials (with_incoming old d.incoming) d.keys d.ends.before setup.moment new d.ends.after (ap keys_in d.was) is_open d.ends.is))
+    (closed_if_ends Responder m.header.id (closed_by answered.fate) d.ends.serials (with_incoming old d.incoming) d.keys d.ends.before setup.moment new d.ends.after (ap keys_in d.was) is_open d.ends.is))
 way_moves windows meaning setup old table octets m (effect.Counted ended) new new_table held config (inl is) =
     let d = is.done in
     let keys = d.sent.keys in
@@ -357,18 +360,18 @@ way_moves windows meaning setup old table octets m (effect.Counted ended) new ne
       configured = config.window;
       tells = judged_window windows meaning.accepts setup old.serial d.sent d.judged.payloads d.verdict d.judged.due;
     } in
-    from_keys (and_closes (Count m.header.id) ended.closed) old keys (ledger new) (ap keys_in d.was)
-    (counted_leads ended.closed m.header.id (ledger_of old keys) (ledger_of (with_outgoing old d.outgoing) keys) (ledger new)
+    from_keys (and_closes (Count m.header.id) (closed_by ended.fate)) old keys (ledger new) (ap keys_in d.was)
+    (counted_leads (closed_by ended.fate) m.header.id (ledger_of old keys) (ledger_of (with_outgoing old d.outgoing) keys) (ledger new)
     (counted_moves old keys m.header.id d.request d.outgoing is_open d.counted) refl window
-    (subst (λ (b : Bool). EndsAs b Initiator m.header.id (ledger_of (with_outgoing old d.outgoing) keys) (ledger new)) (sym d.closed)
-    (concluded_ends setup Initiator m.header.id (with_outgoing old d.outgoing) keys table d.verdict ended.child new new_table awaits (ap keys_in d.was) is_open d.concluded)))
+    (subst (λ (b : Bool). EndsAs b Initiator m.header.id (ledger_of (with_outgoing old d.outgoing) keys) (ledger new)) (sym (concluded_fate setup (with_outgoing old d.outgoing) table d.verdict ended.fate new new_table d.concluded))
+    (concluded_ends setup Initiator m.header.id (with_outgoing old d.outgoing) keys table d.verdict ended.fate new new_table awaits (ap keys_in d.was) is_open d.concluded)))
 way_moves windows meaning setup old table octets m (effect.Counted ended) new new_table held config (inr is) =
     let d = counted_later meaning setup old table octets m ended new new_table is in
     let is_open : is_closed old.phase ≡ false = ap is_closed d.was in
-    from_keys (and_closes (Count m.header.id) ended.closed) old d.keys (ledger new) (ap keys_in d.was)
-    (counted_leads ended.closed m.header.id (ledger_of old d.keys) (ledger_of (with_outgoing old d.outgoing) d.keys) (ledger new)
+    from_keys (and_closes (Count m.header.id) (closed_by ended.fate)) old d.keys (ledger new) (ap keys_in d.was)
+    (counted_leads (closed_by ended.fate) m.header.id (ledger_of old d.keys) (ledger_of (with_outgoing old d.outgoing) d.keys) (ledger new)
     (counted_moves old d.keys m.header.id d.request d.outgoing is_open d.counted) refl (counted_window old.outgoing m.header.id d.request d.outgoing d.counted)
-    (closed_if_ends Initiator m.header.id ended.closed d.ends.serials (with_outgoing old d.outgoing) d.keys d.ends.before setup.moment new d.ends.after (ap keys_in d.was) is_open d.ends.is))
+    (closed_if_ends Initiator m.header.id (closed_by ended.fate) d.ends.serials (with_outgoing old d.outgoing) d.keys d.ends.before setup.moment new d.ends.after (ap keys_in d.was) is_open d.ends.is))
 way_moves windows meaning setup old table octets m (effect.Again next) new new_table held config is = ap ledger is.done.content ∙ sym (no_ledger old (ap keys_in is.was))
 way_moves windows meaning setup old table octets m (effect.AsksAuth next) new new_table held config is =
     let d = is.done in
@@ -596,7 +599,7 @@ few_made None octets = omega arith
 pub few_moves : (number : ℕ) (keys : Option KeyRecord) (e : Effect) → length (moves_of number keys e) ≤ 2
 few_moves number keys (effect.Refused fault) = omega arith
 few_moves number keys (effect.Repeated octets) = omega arith
-few_moves number keys (effect.Replied answered) = few_ended (TakeEffect number answered.octets) answered.closed
+few_moves number keys (effect.Replied answered) = few_ended (TakeEffect number answered.octets) (closed_by answered.fate)
 few_moves number keys (effect.Again octets) = omega arith
 few_moves number keys (effect.AsksAuth octets) = few_made keys octets
-few_moves number keys (effect.Counted ended) = few_ended (Count number) ended.closed
+few_moves number keys (effect.Counted ended) = few_ended (Count number) (closed_by ended.fate)

@@ -37,6 +37,8 @@ use Rattle.effects.specs.declared.taking.Effect.{Effect}
 use Rattle.effects.specs.declared.taking.Effect.TheVariants as effect
 use Rattle.effects.proofs.HeldFacts.{counted_before, HeldFacts}
 use Rattle.effects.proofs.WayLemmas.{answered_further, counted_further, pair_made, way_of, CountedFurther, FurtherIf, Way}
+use Rattle.association.specs.Outcomes.{made_by}
+use Rattle.association.specs.declared.outcome.Fate.{Fate}
 
 -- ---- sets
 
@@ -105,11 +107,11 @@ over_keeps old table moment new new_table q apart is kept =
     removal_keeps is.between old.serial new_table q is.removed
     (subst (λ d. IsKept d q) (sym is.released.content) (record { there = (is.released.reserved q).1 (kept.there, apart); given = kept.given }))
 
-conclusion_keeps : (setup : Setup) (old : Association) (table : Database) (o : Outcome) (child : Option ℕ) (new : Association) (new_table : Database) (q : ℕ)
-    → ¬ HoldsSpi old q → ConcludesBy setup old table o child new new_table → IsKept table q → IsKept new_table q
-conclusion_keeps setup old table outcome.Closes child new new_table q apart is kept = over_keeps old table setup.moment new new_table q apart is.over kept
-conclusion_keeps setup old table (outcome.Establishes pair window) child new new_table q apart is kept =
-    child_keeps table (established_spi old.phase) pair child new_table q (established_apart old.phase q (λ its. apart (inl its))) is.added kept
+conclusion_keeps : (setup : Setup) (old : Association) (table : Database) (o : Outcome) (came : Fate) (new : Association) (new_table : Database) (q : ℕ)
+    → ¬ HoldsSpi old q → ConcludesBy setup old table o came new new_table → IsKept table q → IsKept new_table q
+conclusion_keeps setup old table outcome.Closes came new new_table q apart is kept = over_keeps old table setup.moment new new_table q apart is.over kept
+conclusion_keeps setup old table (outcome.Establishes pair window) came new new_table q apart is kept =
+    child_keeps table (established_spi old.phase) pair (made_by came) new_table q (established_apart old.phase q (λ its. apart (inl its))) is.added kept
 
 closed_if_keeps : (ending : Bool) (serials : List ℕ) (old : Association) (table : Database) (moment : ℕ) (new : Association) (new_table : Database) (q : ℕ)
     → ¬ HoldsSpi old q → ClosesIf ending serials old table moment new new_table → IsKept table q → IsKept new_table q
@@ -131,20 +133,20 @@ further_counted_keeps : HeldFacts → (meaning : Meaning) (setup : Setup) (old :
 further_counted_keeps facts meaning setup old table octets m e new new_table q apart is kept =
     let d = is.done in
     let counted : Association = record old { outgoing = d.outgoing } in
-    further_if_keeps (is_closing_conclusion d.conclusion) (Some d.further.child.spi) (pair_made d.conclusion) counted table setup.moment e.child new new_table q
+    further_if_keeps (is_closing_conclusion d.conclusion) (Some d.further.child.spi) (pair_made d.conclusion) counted table setup.moment (made_by e.fate) new new_table q
     (λ held. apart (counted_before facts old d.outgoing d.request m.header.id q d.counted held))
     (λ same. apart (inr (record { number = m.header.id; awaits = record { request = d.request; outstanding = d.counted.there; reserved = ap spi_asked d.asked ∙ same } })))
-    (counted_further d.conclusion d.further.child.spi counted table setup.moment e.child new new_table d.ends) kept
+    (counted_further d.conclusion d.further.child.spi counted table setup.moment e.fate new new_table d.ends) kept
 
 answer_keeps : (prover : Prover) (setup : Setup) (old : Association) (table : Database) (number : ℕ) (plain : Plain) (a : Answered) (new : Association) (new_table : Database) (q : ℕ)
     → ¬ HoldsSpi old q → AnswersAuth prover setup old table number plain a new new_table → IsKept table q → IsKept new_table q
 answer_keeps prover setup old table number plain a new new_table q apart is kept =
-    conclusion_keeps setup (record old { incoming = is.incoming }) is.between (outcome_of is.decision) a.child new new_table q apart is.concluded (room_keeps table is.between q is.room kept)
+    conclusion_keeps setup (record old { incoming = is.incoming }) is.between (outcome_of is.decision) a.fate new new_table q apart is.concluded (room_keeps table is.between q is.room kept)
 
 end_keeps : HeldFacts → (accepts : Accepts) (setup : Setup) (old : Association) (table : Database) (number : ℕ) (plain : Plain) (e : Ended) (new : Association) (new_table : Database) (q : ℕ)
     → ¬ HoldsSpi old q → EndsAuth accepts setup old table number plain e new new_table → IsKept table q → IsKept new_table q
 end_keeps facts accepts setup old table number plain e new new_table q apart is kept =
-    conclusion_keeps setup (record old { outgoing = is.outgoing }) table is.verdict e.child new new_table q (λ held. apart (counted_before facts old is.outgoing is.request number q is.counted held)) is.concluded kept
+    conclusion_keeps setup (record old { outgoing = is.outgoing }) table is.verdict e.fate new new_table q (λ held. apart (counted_before facts old is.outgoing is.request number q is.counted held)) is.concluded kept
 
 unchanged_keeps : (table new_table : Database) (q : ℕ) → new_table ≡ table → IsKept table q → IsKept new_table q
 unchanged_keeps table new_table q same kept = subst (λ d. IsKept d q) (sym same) kept
@@ -158,8 +160,8 @@ way_keeps facts meaning setup old table octets m (effect.Replied answered) new n
 way_keeps facts meaning setup old table octets m (effect.Replied answered) new new_table q apart (inr (inr is)) kept =
     let d = is.done in
     let taken : Association = record old { incoming = d.incoming } in
-    further_if_keeps (is_closing_decision d.decision) None (further_pair d.decision) taken d.between setup.moment answered.child new new_table q apart (λ same. cc)
-    (answered_further (is_closing_decision d.decision) (further_pair d.decision) taken d.between setup.moment answered.child new new_table d.concluded) (room_keeps table d.between q d.room kept)
+    further_if_keeps (is_closing_decision d.decision) None (further_pair d.decision) taken d.between setup.moment (made_by answered.fate) new new_table q apart (λ same. cc)
+    (answered_further (is_closing_decision d.decision) (further_pair d.decision) taken d.between setup.moment answered.fate new new_table d.concluded) (room_keeps table d.between q d.room kept)
 way_keeps facts meaning setup old table octets m (effect.Replied answered) new new_table q apart (inr (inl is)) kept =
     closed_if_keeps (is_closing_verdict (verdict_on table.pairs old.serial is.done.payloads)) (gone_by (verdict_on table.pairs old.serial is.done.payloads)) (record old { incoming = is.done.incoming }) table setup.moment new new_table q apart is.done.concluded kept
 way_keeps facts meaning setup old table octets m (effect.Again next) new new_table q apart is kept = unchanged_keeps table new_table q is.pairs kept

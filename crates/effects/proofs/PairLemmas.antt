@@ -39,6 +39,8 @@ use Rattle.initial.specs.declared.concluding.Outcome.TheVariants as outcome
 use Rattle.initial.specs.declared.deciding.Decision.{Decision}
 use Rattle.initial.specs.declared.deciding.Decision.TheVariants as decision
 use Rattle.effects.proofs.WayLemmas.{pair_made, FurtherIf}
+use Rattle.association.specs.Outcomes.{made_by}
+use Rattle.association.specs.declared.outcome.Fate.{Fate}
 
 -- ---- maps
 
@@ -157,11 +159,11 @@ over_leaves : (a : Association) (old between : Database) (moment : ℕ) (new : A
 over_leaves a old between moment new new_table same is =
     removal_leaves old is.between a.serial new_table (after old between is.between same (spis_same (HoldsSpi a) between is.between is.released)) is.removed
 
-pub concluded_leaves : (setup : Setup) (a : Association) (old between : Database) (o : Outcome) (child : Option ℕ) (new : Association) (new_table : Database)
-    → HasSamePairs old between → UnusedBy a.serial o → ConcludesBy setup a between o child new new_table → LeavesPairs old a.serial new_table
-concluded_leaves setup a old between outcome.Closes child new new_table same unused is = over_leaves a old between setup.moment new new_table same is.over
-concluded_leaves setup a old between (outcome.Establishes pair window) child new new_table same unused is =
-    child_leaves old between a.serial (established_spi a.phase) pair child new_table same unused is.added
+pub concluded_leaves : (setup : Setup) (a : Association) (old between : Database) (o : Outcome) (came : Fate) (new : Association) (new_table : Database)
+    → HasSamePairs old between → UnusedBy a.serial o → ConcludesBy setup a between o came new new_table → LeavesPairs old a.serial new_table
+concluded_leaves setup a old between outcome.Closes came new new_table same unused is = over_leaves a old between setup.moment new new_table same is.over
+concluded_leaves setup a old between (outcome.Establishes pair window) came new new_table same unused is =
+    child_leaves old between a.serial (established_spi a.phase) pair (made_by came) new_table same unused is.added
 
 -- which IKE SA a named SA pair is of
 owned : (pairs : PairMap) (ike : ℕ) (serials : List ℕ) (serial : ℕ) (pair : Pair) → All (BelongsTo pairs ike) serials → Contains serials serial → pair_at pairs serial ≡ Some pair → pair.ike ≡ ike
@@ -285,11 +287,11 @@ over_told : (a : Association) (old between : Database) (moment : ℕ) (child : O
 over_told a old between moment child new new_table same is =
     removal_told old is.between a.serial child new_table (after old between is.between same (spis_same (HoldsSpi a) between is.between is.released)) is.removed
 
-pub concluded_told : (setup : Setup) (a : Association) (old between : Database) (o : Outcome) (child : Option ℕ) (new : Association) (new_table : Database)
-    → HasSamePairs old between → ConcludesBy setup a between o child new new_table → ComesTold old child new_table
-concluded_told setup a old between outcome.Closes child new new_table same is = over_told a old between setup.moment child new new_table same is.over
-concluded_told setup a old between (outcome.Establishes pair window) child new new_table same is =
-    child_told old between (established_spi a.phase) pair child new_table same is.added
+pub concluded_told : (setup : Setup) (a : Association) (old between : Database) (o : Outcome) (came : Fate) (new : Association) (new_table : Database)
+    → HasSamePairs old between → ConcludesBy setup a between o came new new_table → ComesTold old (made_by came) new_table
+concluded_told setup a old between outcome.Closes came new new_table same is = over_told a old between setup.moment (made_by came) new new_table same is.over
+concluded_told setup a old between (outcome.Establishes pair window) came new new_table same is =
+    child_told old between (established_spi a.phase) pair (made_by came) new_table same is.added
 
 pub closed_if_told : (ending : Bool) (serials : List ℕ) (a : Association) (table : Database) (moment : ℕ) (child : Option ℕ) (new : Association) (new_table : Database) → ClosesIf ending serials a table moment new new_table → ComesTold table child new_table
 closed_if_told true serials a table moment child new new_table is = over_told a table table moment child new new_table (itself_same table) is

@@ -37,6 +37,8 @@ use Rattle.association.specs.declared.outcome.Ended.{Ended}
 use Rattle.effects.specs.declared.taking.Effect.{Effect}
 use Rattle.effects.specs.declared.taking.Effect.TheVariants as effect
 use Rattle.effects.proofs.WayLemmas.{answered_later, counted_later, way_of, Way}
+use Rattle.association.specs.Outcomes.{closed_by}
+use Rattle.association.specs.declared.outcome.Fate.{Fate}
 
 -- what is known of who is accepted
 pub record Acceptance : Type 0 where
@@ -51,34 +53,34 @@ closed_is_not was at keys is = cc
 abbrev pub phase_of : Association → Phase
 phase_of a = a.phase
 
-decided_proves : (facts : Acceptance) (accepts : Accepts) (setup : Setup) (a : Association) (opened : HalfOpen) (was : a.phase ≡ phase.HalfOpen opened) (ike : ℕ) (table between : Database) (plain : Plain) (payloads : Option (List Payload)) (d : Decision) (child : Option ℕ) (b new : Association) (new_table : Database) (keys : KeyRecord)
-    → IsRead plain payloads → IsDecision accepts setup ike opened table payloads d → ConcludesBy setup b between (outcome_of d) child new new_table
+decided_proves : (facts : Acceptance) (accepts : Accepts) (setup : Setup) (a : Association) (opened : HalfOpen) (was : a.phase ≡ phase.HalfOpen opened) (ike : ℕ) (table between : Database) (plain : Plain) (payloads : Option (List Payload)) (d : Decision) (came : Fate) (b new : Association) (new_table : Database) (keys : KeyRecord)
+    → IsRead plain payloads → IsDecision accepts setup ike opened table payloads d → ConcludesBy setup b between (outcome_of d) came new new_table
     → new.phase ≡ phase.Established keys → ProvesByRequest accepts setup a.phase plain
-decided_proves facts accepts setup a opened was ike table between plain payloads (decision.Refused notice) child b new new_table keys read is concluded established =
+decided_proves facts accepts setup a opened was ike table between plain payloads (decision.Refused notice) came b new new_table keys read is concluded established =
     absurd (closed_is_not _ setup.moment keys (sym (ap phase_of concluded.over.content) ∙ established))
-decided_proves facts accepts setup a opened was ike table between plain None (decision.Accepted answer window) child b new new_table keys read is concluded established = absurd is
-decided_proves facts accepts setup a opened was ike table between plain (Some payloads) (decision.Accepted answer window) child b new new_table keys read is concluded established =
+decided_proves facts accepts setup a opened was ike table between plain None (decision.Accepted answer window) came b new new_table keys read is concluded established = absurd is
+decided_proves facts accepts setup a opened was ike table between plain (Some payloads) (decision.Accepted answer window) came b new new_table keys read is concluded established =
     record { opened = opened; was = was; payloads = payloads; read = read; proved = facts.request accepts setup.config.peer.identity _ payloads is.asked is.judged }
 
 pub request_proves : (facts : Acceptance) (prover : Prover) (setup : Setup) (old : Association) (table : Database) (number : ℕ) (plain : Plain) (answer : Answered) (new : Association) (new_table : Database) (keys : KeyRecord)
     → AnswersAuth prover setup old table number plain answer new new_table → new.phase ≡ phase.Established keys → ProvesByRequest prover.accepts setup old.phase plain
 request_proves facts prover setup old table number plain answer new new_table keys is established =
-    decided_proves facts prover.accepts setup old is.opened is.was old.serial table is.between plain is.decided.payloads is.decision answer.child (record old { incoming = is.incoming }) new new_table keys
+    decided_proves facts prover.accepts setup old is.opened is.was old.serial table is.between plain is.decided.payloads is.decision answer.fate (record old { incoming = is.incoming }) new new_table keys
     is.decided.read is.decided.due is.concluded established
 
-verdict_proves : (facts : Acceptance) (accepts : Accepts) (setup : Setup) (a : Association) (sent : AuthSent) (was : a.phase ≡ phase.AuthSent sent) (ike : ℕ) (table : Database) (plain : Plain) (payloads : Option (List Payload)) (o : Outcome) (child : Option ℕ) (b new : Association) (new_table : Database) (keys : KeyRecord)
-    → IsRead plain payloads → IsVerdict accepts setup ike sent payloads o → ConcludesBy setup b table o child new new_table
+verdict_proves : (facts : Acceptance) (accepts : Accepts) (setup : Setup) (a : Association) (sent : AuthSent) (was : a.phase ≡ phase.AuthSent sent) (ike : ℕ) (table : Database) (plain : Plain) (payloads : Option (List Payload)) (o : Outcome) (came : Fate) (b new : Association) (new_table : Database) (keys : KeyRecord)
+    → IsRead plain payloads → IsVerdict accepts setup ike sent payloads o → ConcludesBy setup b table o came new new_table
     → new.phase ≡ phase.Established keys → ProvesByResponse accepts setup a.phase plain
-verdict_proves facts accepts setup a sent was ike table plain payloads outcome.Closes child b new new_table keys read is concluded established =
+verdict_proves facts accepts setup a sent was ike table plain payloads outcome.Closes came b new new_table keys read is concluded established =
     absurd (closed_is_not _ setup.moment keys (sym (ap phase_of concluded.over.content) ∙ established))
-verdict_proves facts accepts setup a sent was ike table plain None (outcome.Establishes pair window) child b new new_table keys read is concluded established = absurd is
-verdict_proves facts accepts setup a sent was ike table plain (Some payloads) (outcome.Establishes pair window) child b new new_table keys read is concluded established =
+verdict_proves facts accepts setup a sent was ike table plain None (outcome.Establishes pair window) came b new new_table keys read is concluded established = absurd is
+verdict_proves facts accepts setup a sent was ike table plain (Some payloads) (outcome.Establishes pair window) came b new new_table keys read is concluded established =
     record { sent = sent; was = was; payloads = payloads; read = read; proved = facts.answer accepts setup.config.peer.identity _ payloads is.proved }
 
 pub response_proves : (facts : Acceptance) (accepts : Accepts) (setup : Setup) (old : Association) (table : Database) (number : ℕ) (plain : Plain) (ended : Ended) (new : Association) (new_table : Database) (keys : KeyRecord)
     → EndsAuth accepts setup old table number plain ended new new_table → new.phase ≡ phase.Established keys → ProvesByResponse accepts setup old.phase plain
 response_proves facts accepts setup old table number plain ended new new_table keys is established =
-    verdict_proves facts accepts setup old is.sent is.was old.serial table plain is.judged.payloads is.verdict ended.child (record old { outgoing = is.outgoing }) new new_table keys
+    verdict_proves facts accepts setup old is.sent is.was old.serial table plain is.judged.payloads is.verdict ended.fate (record old { outgoing = is.outgoing }) new new_table keys
     is.judged.read is.judged.due is.concluded established
 
 -- ---- by a message
@@ -113,7 +115,7 @@ way_proves facts meaning setup old table octets m (effect.Replied answered) new 
     })
 way_proves facts meaning setup old table octets m (effect.Replied answered) new new_table keys (inr is) established =
     let d = answered_later meaning setup old table octets m answered new new_table is in
-    inl (closed_if_before answered.closed d.ends.serials (with_incoming old d.incoming) d.ends.before setup.moment new d.ends.after keys d.ends.is established)
+    inl (closed_if_before (closed_by answered.fate) d.ends.serials (with_incoming old d.incoming) d.ends.before setup.moment new d.ends.after keys d.ends.is established)
 way_proves facts meaning setup old table octets m (effect.Again next) new new_table keys is established =
     absurd (waiting_is_not _ keys (sym (ap phase_of is.done.content) ∙ established))
 way_proves facts meaning setup old table octets m (effect.AsksAuth next) new new_table keys is established =
@@ -126,7 +128,7 @@ way_proves facts meaning setup old table octets m (effect.Counted ended) new new
     })
 way_proves facts meaning setup old table octets m (effect.Counted ended) new new_table keys (inr is) established =
     let d = counted_later meaning setup old table octets m ended new new_table is in
-    inl (closed_if_before ended.closed d.ends.serials (with_outgoing old d.outgoing) d.ends.before setup.moment new d.ends.after keys d.ends.is established)
+    inl (closed_if_before (closed_by ended.fate) d.ends.serials (with_outgoing old d.outgoing) d.ends.before setup.moment new d.ends.after keys d.ends.is established)
 
 pub message_proves : OpenedFacts → (meaning : Meaning) (setup : Setup) (old : Association) (table : Database) (octets : Octets) (m : Message) (e : Effect) (new : Association) (new_table : Database) (keys : KeyRecord)
     → TakesMessage meaning setup old table octets m e new new_table → new.phase ≡ phase.Established keys → (old.phase ≡ phase.Established keys) ⊎ ProvesByMessage meaning setup old octets m

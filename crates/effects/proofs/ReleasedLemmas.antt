@@ -48,6 +48,8 @@ use Rattle.effects.specs.declared.taking.Effect.{Effect}
 use Rattle.effects.specs.declared.taking.Effect.TheVariants as effect
 use Rattle.effects.proofs.MapLemmas.{same_item}
 use Rattle.effects.proofs.WayLemmas.{answered_further, counted_further, pair_made, way_of, AnsweredAuth, AnsweredFurther, AnsweredInformational, CountedAuth, CountedFurther, CountedInformational, FurtherIf, WasAsked, WasIdentified, Way}
+use Rattle.association.specs.Outcomes.{made_by}
+use Rattle.association.specs.declared.outcome.Fate.{Fate}
 
 -- ---- sets
 
@@ -211,11 +213,11 @@ same_outstanding a new q same awaits = record {
   awaits = record { request = awaits.awaits.request; outstanding = same awaits.number ∙ awaits.awaits.outstanding; reserved = awaits.awaits.reserved };
 }
 
-conclusion_keeps : (setup : Setup) (a : Association) (table : Database) (o : Outcome) (child : Option ℕ) (new : Association) (new_table : Database) (q : ℕ)
-    → (spi_in a.phase ≡ Some q → established_spi a.phase ≡ Some q) → ConcludesBy setup a table o child new new_table → IsReserved new_table q → Keeps a table new new_table q
-conclusion_keeps setup a table outcome.Closes child new new_table q first is there = over_keeps a table setup.moment new new_table q is.over there
-conclusion_keeps setup a table (outcome.Establishes pair window) child new new_table q first is there =
-    let was = child_was table (established_spi a.phase) pair child new_table q is.added there in
+conclusion_keeps : (setup : Setup) (a : Association) (table : Database) (o : Outcome) (came : Fate) (new : Association) (new_table : Database) (q : ℕ)
+    → (spi_in a.phase ≡ Some q → established_spi a.phase ≡ Some q) → ConcludesBy setup a table o came new new_table → IsReserved new_table q → Keeps a table new new_table q
+conclusion_keeps setup a table outcome.Closes came new new_table q first is there = over_keeps a table setup.moment new new_table q is.over there
+conclusion_keeps setup a table (outcome.Establishes pair window) came new new_table q first is there =
+    let was = child_was table (established_spi a.phase) pair (made_by came) new_table q is.added there in
     record {
       before = was.1;
       still = λ held. elim held [
@@ -252,7 +254,7 @@ module _ (meaning : Meaning) (setup : Setup) (old : Association) (table : Databa
   answered_keeps a is =
       let d = is.done in
       let taken : Association = record old { incoming = d.incoming } in
-      let done = conclusion_keeps setup taken d.between (outcome_of d.decision) a.child new new_table q (λ its. absurd (none-some q (sym (ap spi_in d.was) ∙ its))) d.concluded there in
+      let done = conclusion_keeps setup taken d.between (outcome_of d.decision) a.fate new new_table q (λ its. absurd (none-some q (sym (ap spi_in d.was) ∙ its))) d.concluded there in
       record { before = room_was table d.between q d.room done.before; still = done.still }
 
   informed_keeps : (a : Answered) → AnsweredInformational meaning setup old table octets m a new new_table → Keeps old table new new_table q
@@ -266,15 +268,15 @@ module _ (meaning : Meaning) (setup : Setup) (old : Association) (table : Databa
   further_answered_keeps a is =
       let d = is.done in
       let taken : Association = record old { incoming = d.incoming } in
-      let done = (further_keeps (is_closing_decision d.decision) None (further_pair d.decision) taken d.between setup.moment a.child new new_table q
-      (answered_further (is_closing_decision d.decision) (further_pair d.decision) taken d.between setup.moment a.child new new_table d.concluded) there).keeps in
+      let done = (further_keeps (is_closing_decision d.decision) None (further_pair d.decision) taken d.between setup.moment (made_by a.fate) new new_table q
+      (answered_further (is_closing_decision d.decision) (further_pair d.decision) taken d.between setup.moment a.fate new new_table d.concluded) there).keeps in
       record { before = room_was table d.between q d.room done.before; still = done.still }
 
   ended_keeps : (e : Ended) → SuitPhase old.phase old.outgoing.outstanding → CountedAuth meaning setup old table octets m e new new_table → Keeps old table new new_table q
   ended_keeps e waits is =
       let d = is.done in
       let counted : Association = record old { outgoing = d.outgoing } in
-      let done = conclusion_keeps setup counted table d.verdict e.child new new_table q (λ its. ap established_spi d.was ∙ sym (ap spi_in d.was) ∙ its) d.concluded there in
+      let done = conclusion_keeps setup counted table d.verdict e.fate new new_table q (λ its. ap established_spi d.was ∙ sym (ap spi_in d.was) ∙ its) d.concluded there in
       record {
         before = done.before;
         still = λ held. elim held [
@@ -301,8 +303,8 @@ module _ (meaning : Meaning) (setup : Setup) (old : Association) (table : Databa
   further_counted_keeps e is =
       let d = is.done in
       let counted : Association = record old { outgoing = d.outgoing } in
-      let done = further_keeps (is_closing_conclusion d.conclusion) (Some d.further.child.spi) (pair_made d.conclusion) counted table setup.moment e.child new new_table q
-      (counted_further d.conclusion d.further.child.spi counted table setup.moment e.child new new_table d.ends) there in
+      let done = further_keeps (is_closing_conclusion d.conclusion) (Some d.further.child.spi) (pair_made d.conclusion) counted table setup.moment (made_by e.fate) new new_table q
+      (counted_further d.conclusion d.further.child.spi counted table setup.moment e.fate new new_table d.ends) there in
       record {
         before = done.keeps.before;
         still = λ held. elim held [

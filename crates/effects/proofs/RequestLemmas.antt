@@ -66,6 +66,8 @@ use Rattle.effects.specs.declared.taking.Effect.{Effect}
 use Rattle.effects.specs.declared.taking.Effect.TheVariants as effect
 use Rattle.effects.proofs.KeepingLemmas.{established_keys}
 use Rattle.effects.proofs.WayLemmas.{answered_later, counted_later, further_later, informed_later, way_of, AnsweredLater, Way}
+use Rattle.association.specs.Outcomes.{closed_by}
+use Rattle.association.specs.declared.outcome.Fate.{Fate}
 
 -- what is known of the peer's requests
 pub record FollowLaws : Type 0 where
@@ -218,10 +220,10 @@ over_concludes laws a table moment new new_table is =
       issued = λ before number request there. absurd (none_outstanding number request (sym (ap (λ (r : OwnRequests Request). map.get r.outstanding number) is.requests.content) ∙ there));
     })
 
-auth_concludes : (laws : FollowLaws) (setup : Setup) (a : Association) (table : Database) (o : Outcome) (child : Option ℕ) (new : Association) (new_table : Database) (keys : KeyRecord)
-    → established_of a.phase ≡ phase.Established keys → ConcludesBy setup a table o child new new_table → Concludes a new
-auth_concludes laws setup a table outcome.Closes child new new_table keys was is = over_concludes laws a table setup.moment new new_table is.over
-auth_concludes laws setup a table (outcome.Establishes pair window) child new new_table keys was is =
+auth_concludes : (laws : FollowLaws) (setup : Setup) (a : Association) (table : Database) (o : Outcome) (came : Fate) (new : Association) (new_table : Database) (keys : KeyRecord)
+    → established_of a.phase ≡ phase.Established keys → ConcludesBy setup a table o came new new_table → Concludes a new
+auth_concludes laws setup a table outcome.Closes came new new_table keys was is = over_concludes laws a table setup.moment new new_table is.over
+auth_concludes laws setup a table (outcome.Establishes pair window) came new new_table keys was is =
     let size = max setup.config.window a.incoming.size in
     concludes_as a (widened setup.config.window window (established a)) new is.content
     (record {
@@ -256,10 +258,10 @@ closing_concludes laws false serials a table moment new new_table concluded is =
     })
 
 -- the window is widened where the IKE SA is established
-auth_window : (setup : Setup) (a : Association) (table : Database) (o : Outcome) (child : Option ℕ) (new : Association) (new_table : Database) (keys : KeyRecord)
-    → is_concluded a.phase ≡ false → established_of a.phase ≡ phase.Established keys → ConcludesBy setup a table o child new new_table → KeepsWindow setup.config.window a new
-auth_window setup a table outcome.Closes child new new_table keys open_yet was is = inl (ap (λ (x : Association). x.incoming.size) is.over.content)
-auth_window setup a table (outcome.Establishes pair window) child new new_table keys open_yet was is = inr (record {
+auth_window : (setup : Setup) (a : Association) (table : Database) (o : Outcome) (came : Fate) (new : Association) (new_table : Database) (keys : KeyRecord)
+    → is_concluded a.phase ≡ false → established_of a.phase ≡ phase.Established keys → ConcludesBy setup a table o came new new_table → KeepsWindow setup.config.window a new
+auth_window setup a table outcome.Closes came new new_table keys open_yet was is = inl (ap (λ (x : Association). x.incoming.size) is.over.content)
+auth_window setup a table (outcome.Establishes pair window) came new new_table keys open_yet was is = inr (record {
   before = open_yet;
   after = record { keys = keys; is = ap (λ (x : Association). x.phase) is.content ∙ was };
   size = ap (λ (x : Association). x.incoming.size) is.content;
@@ -285,10 +287,10 @@ judged_window windows accepts setup ike sent None (outcome.Establishes pair wind
 judged_window windows accepts setup ike sent (Some payloads) outcome.Closes is = tt
 judged_window windows accepts setup ike sent (Some payloads) (outcome.Establishes pair window) is = subst (λ n. IsWindow n) (sym is.told) (windows payloads)
 
-auth_peers : (setup : Setup) (a : Association) (table : Database) (o : Outcome) (child : Option ℕ) (new : Association) (new_table : Database) (keys : KeyRecord)
-    → is_concluded a.phase ≡ false → established_of a.phase ≡ phase.Established keys → TellsWindow o → ConcludesBy setup a table o child new new_table → BoundsPeersWindow a new
-auth_peers setup a table outcome.Closes child new new_table keys open_yet was tells is = inl (ap (λ (r : OwnRequests Request). r.window) is.over.requests.content)
-auth_peers setup a table (outcome.Establishes pair window) child new new_table keys open_yet was tells is = inr (record {
+auth_peers : (setup : Setup) (a : Association) (table : Database) (o : Outcome) (came : Fate) (new : Association) (new_table : Database) (keys : KeyRecord)
+    → is_concluded a.phase ≡ false → established_of a.phase ≡ phase.Established keys → TellsWindow o → ConcludesBy setup a table o came new new_table → BoundsPeersWindow a new
+auth_peers setup a table outcome.Closes came new new_table keys open_yet was tells is = inl (ap (λ (r : OwnRequests Request). r.window) is.over.requests.content)
+auth_peers setup a table (outcome.Establishes pair window) came new new_table keys open_yet was tells is = inr (record {
   before = open_yet;
   after = ap (λ (x : Association). is_concluded x.phase) is.content ∙ ap is_concluded was;
   told = window;
@@ -529,39 +531,39 @@ way_leaves laws windows meaning setup old table octets m (effect.Repeated reply)
 way_leaves laws windows meaning setup old table octets m (effect.Replied answered) new new_table (inl is) =
     let d = is.done in
     taken_leaves laws setup.config.window old d.ready d.incoming m.header.id answered.octets new d.prepared d.taken
-    (auth_concludes laws setup (with_incoming old d.incoming) d.between (outcome_of d.decision) answered.child new new_table d.opened.keys (ap established_of d.was) d.concluded)
+    (auth_concludes laws setup (with_incoming old d.incoming) d.between (outcome_of d.decision) answered.fate new new_table d.opened.keys (ap established_of d.was) d.concluded)
     (not_yet old.phase (phase.HalfOpen d.opened) new.incoming.size d.incoming.size d.was refl)
-    (auth_window setup (with_incoming old d.incoming) d.between (outcome_of d.decision) answered.child new new_table d.opened.keys (ap is_concluded d.was) (ap established_of d.was) d.concluded)
-    (auth_peers setup (with_incoming old d.incoming) d.between (outcome_of d.decision) answered.child new new_table d.opened.keys (ap is_concluded d.was) (ap established_of d.was)
+    (auth_window setup (with_incoming old d.incoming) d.between (outcome_of d.decision) answered.fate new new_table d.opened.keys (ap is_concluded d.was) (ap established_of d.was) d.concluded)
+    (auth_peers setup (with_incoming old d.incoming) d.between (outcome_of d.decision) answered.fate new new_table d.opened.keys (ap is_concluded d.was) (ap established_of d.was)
     (decided_window windows meaning.accepts setup old.serial d.opened table d.decided.payloads d.decision d.decided.due) d.concluded)
     (subst (λ (p : Phase). SuitPhase p old.outgoing.outstanding → SuitPhase (established_of p) old.outgoing.outstanding) (sym d.was) (λ waits number request there. absurd (waits number request there)))
 way_leaves laws windows meaning setup old table octets m (effect.Replied answered) new new_table (inr is) =
     let d = answered_later meaning setup old table octets m answered new new_table is in
     taken_leaves laws setup.config.window old d.ready d.incoming m.header.id answered.octets new d.prepared d.taken
-    (closing_concludes laws answered.closed d.ends.serials (with_incoming old d.incoming) d.ends.before setup.moment new d.ends.after (ap is_concluded d.was) d.ends.is)
-    (λ concluded. size_if answered.closed d.ends.serials (with_incoming old d.incoming) d.ends.before setup.moment new d.ends.after d.ends.is)
-    (inl (size_if answered.closed d.ends.serials (with_incoming old d.incoming) d.ends.before setup.moment new d.ends.after d.ends.is))
-    (peers_if answered.closed d.ends.serials (with_incoming old d.incoming) d.ends.before setup.moment new d.ends.after d.ends.is)
+    (closing_concludes laws (closed_by answered.fate) d.ends.serials (with_incoming old d.incoming) d.ends.before setup.moment new d.ends.after (ap is_concluded d.was) d.ends.is)
+    (λ concluded. size_if (closed_by answered.fate) d.ends.serials (with_incoming old d.incoming) d.ends.before setup.moment new d.ends.after d.ends.is)
+    (inl (size_if (closed_by answered.fate) d.ends.serials (with_incoming old d.incoming) d.ends.before setup.moment new d.ends.after d.ends.is))
+    (peers_if (closed_by answered.fate) d.ends.serials (with_incoming old d.incoming) d.ends.before setup.moment new d.ends.after d.ends.is)
     (subst (λ (p : Phase). SuitPhase p old.outgoing.outstanding → SuitPhase (established_of p) old.outgoing.outstanding) (sym d.was) (λ waits. waits))
 way_leaves laws windows meaning setup old table octets m (effect.Counted ended) new new_table (inl is) =
     let d = is.done in
     counted_leaves laws setup.config.window old (with_outgoing old d.outgoing) new refl refl refl refl
-    (auth_concludes laws setup (with_outgoing old d.outgoing) table d.verdict ended.child new new_table d.sent.keys (ap established_of d.was) d.concluded)
+    (auth_concludes laws setup (with_outgoing old d.outgoing) table d.verdict ended.fate new new_table d.sent.keys (ap established_of d.was) d.concluded)
     (not_yet old.phase (phase.AuthSent d.sent) new.incoming.size old.incoming.size d.was refl)
-    (auth_window setup (with_outgoing old d.outgoing) table d.verdict ended.child new new_table d.sent.keys (ap is_concluded d.was) (ap established_of d.was) d.concluded)
+    (auth_window setup (with_outgoing old d.outgoing) table d.verdict ended.fate new new_table d.sent.keys (ap is_concluded d.was) (ap established_of d.was) d.concluded)
     (counted_window old.outgoing m.header.id d.request d.outgoing d.counted)
-    (auth_peers setup (with_outgoing old d.outgoing) table d.verdict ended.child new new_table d.sent.keys (ap is_concluded d.was) (ap established_of d.was)
+    (auth_peers setup (with_outgoing old d.outgoing) table d.verdict ended.fate new new_table d.sent.keys (ap is_concluded d.was) (ap established_of d.was)
     (judged_window windows meaning.accepts setup old.serial d.sent d.judged.payloads d.verdict d.judged.due) d.concluded)
     (subst (λ (p : Phase). SuitPhase p old.outgoing.outstanding → SuitPhase (established_of p) d.outgoing.outstanding) (sym d.was) (asked_once d.sent old.outgoing m.header.id d.request d.outgoing d.counted))
     (fewer_issued old.outgoing m.header.id d.request d.outgoing d.counted)
 way_leaves laws windows meaning setup old table octets m (effect.Counted ended) new new_table (inr is) =
     let d = counted_later meaning setup old table octets m ended new new_table is in
     counted_leaves laws setup.config.window old (with_outgoing old d.outgoing) new refl refl refl refl
-    (closing_concludes laws ended.closed d.ends.serials (with_outgoing old d.outgoing) d.ends.before setup.moment new d.ends.after (ap is_concluded d.was) d.ends.is)
-    (λ concluded. size_if ended.closed d.ends.serials (with_outgoing old d.outgoing) d.ends.before setup.moment new d.ends.after d.ends.is)
-    (inl (size_if ended.closed d.ends.serials (with_outgoing old d.outgoing) d.ends.before setup.moment new d.ends.after d.ends.is))
+    (closing_concludes laws (closed_by ended.fate) d.ends.serials (with_outgoing old d.outgoing) d.ends.before setup.moment new d.ends.after (ap is_concluded d.was) d.ends.is)
+    (λ concluded. size_if (closed_by ended.fate) d.ends.serials (with_outgoing old d.outgoing) d.ends.before setup.moment new d.ends.after d.ends.is)
+    (inl (size_if (closed_by ended.fate) d.ends.serials (with_outgoing old d.outgoing) d.ends.before setup.moment new d.ends.after d.ends.is))
     (counted_window old.outgoing m.header.id d.request d.outgoing d.counted)
-    (peers_if ended.closed d.ends.serials (with_outgoing old d.outgoing) d.ends.before setup.moment new d.ends.after d.ends.is)
+    (peers_if (closed_by ended.fate) d.ends.serials (with_outgoing old d.outgoing) d.ends.before setup.moment new d.ends.after d.ends.is)
     (subst (λ (p : Phase). SuitPhase p old.outgoing.outstanding → SuitPhase (established_of p) d.outgoing.outstanding) (sym d.was) (fewer_wait d.keys old.outgoing m.header.id d.request d.outgoing d.counted))
     (fewer_issued old.outgoing m.header.id d.request d.outgoing d.counted)
 way_leaves laws windows meaning setup old table octets m (effect.Again next) new new_table is = early_leaves laws setup.config.window old new is.sent (ap (λ (x : Association). x.incoming) is.done.content) is.was (λ opened opens. absurd (init_opens _ opened (sym (ap (λ (x : Association). x.phase) is.done.content) ∙ opens)))
@@ -691,7 +693,7 @@ later_taken laws meaning setup old m answered new admitted d = record {
   answered = answered;
   said = refl;
   taken = taken_by old d.ready d.incoming m.header.id answered.octets new d.prepared d.taken
-      (closing_concludes laws answered.closed d.ends.serials (with_incoming old d.incoming) d.ends.before setup.moment new d.ends.after (ap is_concluded d.was) d.ends.is);
+      (closing_concludes laws (closed_by answered.fate) d.ends.serials (with_incoming old d.incoming) d.ends.before setup.moment new d.ends.after (ap is_concluded d.was) d.ends.is);
 }
 
 auth_taken : (laws : FollowLaws) (meaning : Meaning) (setup : Setup) (old : Association) (table : Database) (m : Message) (plain : Plain) (answered : Answered) (new : Association) (new_table : Database)
@@ -701,7 +703,7 @@ auth_taken laws meaning setup old table m plain answered new new_table admitted 
   answered = answered;
   said = refl;
   taken = taken_by old is.ready is.incoming m.header.id answered.octets new is.prepared is.taken
-      (auth_concludes laws setup (with_incoming old is.incoming) is.between (outcome_of is.decision) answered.child new new_table is.opened.keys (ap established_of is.was) is.concluded);
+      (auth_concludes laws setup (with_incoming old is.incoming) is.between (outcome_of is.decision) answered.fate new new_table is.opened.keys (ap established_of is.was) is.concluded);
 }
 
 further_taken : (laws : FollowLaws) (informational : Bool) (meaning : Meaning) (setup : Setup) (old : Association) (table : Database) (m : Message) (plain : Plain) (e : Effect) (new : Association) (new_table : Database)
@@ -743,10 +745,10 @@ way_same laws meaning setup old table octets m (effect.Again next) new new_table
 way_same laws meaning setup old table octets m (effect.AsksAuth next) new new_table is = inl (ap (λ (a : Association). a.incoming.in_effect) is.done.content)
 way_same laws meaning setup old table octets m (effect.Counted ended) new new_table (inl is) =
     let d = is.done in
-    inl (auth_concludes laws setup (with_outgoing old d.outgoing) table d.verdict ended.child new new_table d.sent.keys (ap established_of d.was) d.concluded).in_effect
+    inl (auth_concludes laws setup (with_outgoing old d.outgoing) table d.verdict ended.fate new new_table d.sent.keys (ap established_of d.was) d.concluded).in_effect
 way_same laws meaning setup old table octets m (effect.Counted ended) new new_table (inr is) =
     let d = counted_later meaning setup old table octets m ended new new_table is in
-    inl (closing_concludes laws ended.closed d.ends.serials (with_outgoing old d.outgoing) d.ends.before setup.moment new d.ends.after (ap is_concluded d.was) d.ends.is).in_effect
+    inl (closing_concludes laws (closed_by ended.fate) d.ends.serials (with_outgoing old d.outgoing) d.ends.before setup.moment new d.ends.after (ap is_concluded d.was) d.ends.is).in_effect
 
 -- what a message that was answered is
 record IsRequest (r : Reception) : Type 0 where

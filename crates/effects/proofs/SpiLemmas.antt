@@ -39,6 +39,8 @@ use Rattle.effects.specs.declared.taking.Effect.{Effect}
 use Rattle.effects.specs.declared.taking.Effect.TheVariants as effect
 use Rattle.effects.proofs.PairLemmas.{answer_unused, closed_if_leaves, concluded_leaves, end_unused, further_if_leaves, further_unused, itself_same, made_unused, room_same, same_leaves, HasSamePairs}
 use Rattle.effects.proofs.WayLemmas.{answered_further, answered_later, counted_further, counted_later, pair_made, way_of, AnsweredFurther, CountedFurther, CountedInformational, EndsOrStays, WasAsked, WasIdentified, Way}
+use Rattle.association.specs.Outcomes.{closed_by, made_by}
+use Rattle.association.specs.declared.outcome.Fate.{Fate}
 
 -- a message that is dropped, or comes again, changes nothing
 abbrev pub Idle : Effect → Association → Database → Association → Database → Type 0
@@ -118,10 +120,10 @@ closed_if_itself true serials old table moment new new_table is = over_itself ol
 closed_if_itself false serials old table moment new new_table is = itself_by old old new is.0 (all_itself old)
 
 -- when IKE_AUTH is done
-concluded_itself : (setup : Setup) (old : Association) (table : Database) (o : Outcome) (child : Option ℕ) (new : Association) (new_table : Database) (keys : KeyRecord)
-    → established_of old.phase ≡ phase.Established keys → ConcludesBy setup old table o child new new_table → KeepsIdentity old new
-concluded_itself setup old table outcome.Closes child new new_table keys was c = over_itself old table setup.moment new new_table c.over
-concluded_itself setup old table (outcome.Establishes pair window) child new new_table keys was c =
+concluded_itself : (setup : Setup) (old : Association) (table : Database) (o : Outcome) (came : Fate) (new : Association) (new_table : Database) (keys : KeyRecord)
+    → established_of old.phase ≡ phase.Established keys → ConcludesBy setup old table o came new new_table → KeepsIdentity old new
+concluded_itself setup old table outcome.Closes came new new_table keys was c = over_itself old table setup.moment new new_table c.over
+concluded_itself setup old table (outcome.Establishes pair window) came new new_table keys was c =
     itself_by old (widened setup.config.window window (established old)) new c.content
     (record {
       serial = refl;
@@ -153,8 +155,8 @@ answered_leaves prover setup old table number plain a new new_table is =
     record {
       idle = tt;
       itself = like (record old { incoming = is.incoming }) old new refl refl refl refl refl
-          (concluded_itself setup (record old { incoming = is.incoming }) is.between (outcome_of is.decision) a.child new new_table is.opened.keys (ap established_of is.was) is.concluded);
-      pairs = concluded_leaves setup (record old { incoming = is.incoming }) table is.between (outcome_of is.decision) a.child new new_table (room_same table is.between is.room)
+          (concluded_itself setup (record old { incoming = is.incoming }) is.between (outcome_of is.decision) a.fate new new_table is.opened.keys (ap established_of is.was) is.concluded);
+      pairs = concluded_leaves setup (record old { incoming = is.incoming }) table is.between (outcome_of is.decision) a.fate new new_table (room_same table is.between is.room)
           (answer_unused prover.accepts setup old.serial is.opened table plain is.decision is.decided) is.concluded;
     }
 
@@ -164,8 +166,8 @@ ended_leaves accepts setup old table number plain e new new_table is =
     record {
       idle = tt;
       itself = like (record old { outgoing = is.outgoing }) old new refl refl refl refl refl
-          (concluded_itself setup (record old { outgoing = is.outgoing }) table is.verdict e.child new new_table is.sent.keys (ap established_of is.was) is.concluded);
-      pairs = concluded_leaves setup (record old { outgoing = is.outgoing }) table table is.verdict e.child new new_table (itself_same table)
+          (concluded_itself setup (record old { outgoing = is.outgoing }) table is.verdict e.fate new new_table is.sent.keys (ap established_of is.was) is.concluded);
+      pairs = concluded_leaves setup (record old { outgoing = is.outgoing }) table table is.verdict e.fate new new_table (itself_same table)
           (end_unused accepts setup old.serial is.sent plain is.verdict is.judged) is.concluded;
     }
 
@@ -204,10 +206,10 @@ further_answered_leaves meaning setup old table octets m a new new_table is =
     let taken : Association = record old { incoming = d.incoming } in
     record {
       idle = tt;
-      itself = like (record old { incoming = later.incoming }) old new refl refl refl refl refl (ends_itself a.closed (record old { incoming = later.incoming }) setup.moment new later.ends);
-      pairs = further_if_leaves (is_closing_decision d.decision) None (further_pair d.decision) taken table d.between setup.moment a.child new new_table (room_same table d.between d.room)
+      itself = like (record old { incoming = later.incoming }) old new refl refl refl refl refl (ends_itself (closed_by a.fate) (record old { incoming = later.incoming }) setup.moment new later.ends);
+      pairs = further_if_leaves (is_closing_decision d.decision) None (further_pair d.decision) taken table d.between setup.moment (made_by a.fate) new new_table (room_same table d.between d.room)
           (further_unused setup old.serial d.keys table d.deleting is.plain d.decision d.decided)
-          (answered_further (is_closing_decision d.decision) (further_pair d.decision) taken d.between setup.moment a.child new new_table d.concluded);
+          (answered_further (is_closing_decision d.decision) (further_pair d.decision) taken d.between setup.moment a.fate new new_table d.concluded);
     }
 
 further_counted_leaves : (meaning : Meaning) (setup : Setup) (old : Association) (table : Database) (octets : Octets) (m : Message) (e : Ended) (new : Association) (new_table : Database)
@@ -218,10 +220,10 @@ further_counted_leaves meaning setup old table octets m e new new_table is =
     let counted : Association = record old { outgoing = d.outgoing } in
     record {
       idle = tt;
-      itself = like (record old { outgoing = later.outgoing }) old new refl refl refl refl refl (ends_itself e.closed (record old { outgoing = later.outgoing }) setup.moment new later.ends);
-      pairs = further_if_leaves (is_closing_conclusion d.conclusion) (Some d.further.child.spi) (pair_made d.conclusion) counted table table setup.moment e.child new new_table (itself_same table)
+      itself = like (record old { outgoing = later.outgoing }) old new refl refl refl refl refl (ends_itself (closed_by e.fate) (record old { outgoing = later.outgoing }) setup.moment new later.ends);
+      pairs = further_if_leaves (is_closing_conclusion d.conclusion) (Some d.further.child.spi) (pair_made d.conclusion) counted table table setup.moment (made_by e.fate) new new_table (itself_same table)
           (made_unused setup.config.blocks old.serial d.keys (asked_of d.further.child) d.further.nonce is.plain d.conclusion d.concluded)
-          (counted_further d.conclusion d.further.child.spi counted table setup.moment e.child new new_table d.ends);
+          (counted_further d.conclusion d.further.child.spi counted table setup.moment e.fate new new_table d.ends);
     }
 
 asked_leaves : (meaning : Meaning) (setup : Setup) (old : Association) (table : Database) (m : Message) (next : Octets) (new : Association) (new_table : Database)

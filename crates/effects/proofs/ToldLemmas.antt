@@ -20,30 +20,31 @@ use Rattle.effects.specs.declared.taking.Effect.{Effect}
 use Rattle.effects.specs.declared.taking.Effect.TheVariants as effect
 use Rattle.effects.proofs.PairLemmas.{closed_if_told, concluded_told, further_if_told, itself_same, room_same, unchanged_told, ComesTold}
 use Rattle.effects.proofs.WayLemmas.{answered_further, counted_further, pair_made, way_of, Way}
+use Rattle.association.specs.Outcomes.{made_by}
 
 way_told : (meaning : Meaning) (setup : Setup) (old : Association) (table : Database) (octets : Octets) (m : Message) (e : Effect) (new : Association) (new_table : Database)
     → Way meaning setup old table octets m e new new_table → ComesTold table (child_in e) new_table
 way_told meaning setup old table octets m (effect.Refused fault) new new_table is = unchanged_told table None new_table is.pairs
 way_told meaning setup old table octets m (effect.Repeated reply) new new_table is = unchanged_told table None new_table is.same.pairs
 way_told meaning setup old table octets m (effect.Replied answered) new new_table (inl is) =
-    concluded_told setup (with_incoming old is.done.incoming) table is.done.between (outcome_of is.done.decision) answered.child new new_table
+    concluded_told setup (with_incoming old is.done.incoming) table is.done.between (outcome_of is.done.decision) answered.fate new new_table
     (room_same table is.done.between is.done.room) is.done.concluded
 way_told meaning setup old table octets m (effect.Replied answered) new new_table (inr (inr is)) =
     let d = is.done in
-    further_if_told (is_closing_decision d.decision) None (further_pair d.decision) (with_incoming old d.incoming) table d.between setup.moment answered.child new new_table (room_same table d.between d.room)
-    (answered_further (is_closing_decision d.decision) (further_pair d.decision) (with_incoming old d.incoming) d.between setup.moment answered.child new new_table d.concluded)
+    further_if_told (is_closing_decision d.decision) None (further_pair d.decision) (with_incoming old d.incoming) table d.between setup.moment (made_by answered.fate) new new_table (room_same table d.between d.room)
+    (answered_further (is_closing_decision d.decision) (further_pair d.decision) (with_incoming old d.incoming) d.between setup.moment answered.fate new new_table d.concluded)
 way_told meaning setup old table octets m (effect.Replied answered) new new_table (inr (inl is)) =
-    closed_if_told (is_closing_verdict (verdict_on table.pairs old.serial is.done.payloads)) (gone_by (verdict_on table.pairs old.serial is.done.payloads)) (with_incoming old is.done.incoming) table setup.moment answered.child new new_table is.done.concluded
+    closed_if_told (is_closing_verdict (verdict_on table.pairs old.serial is.done.payloads)) (gone_by (verdict_on table.pairs old.serial is.done.payloads)) (with_incoming old is.done.incoming) table setup.moment (made_by answered.fate) new new_table is.done.concluded
 way_told meaning setup old table octets m (effect.Again next) new new_table is = unchanged_told table None new_table is.pairs
 way_told meaning setup old table octets m (effect.AsksAuth next) new new_table is = unchanged_told table None new_table is.pairs
 way_told meaning setup old table octets m (effect.Counted ended) new new_table (inl is) =
-    concluded_told setup (with_outgoing old is.done.outgoing) table table is.done.verdict ended.child new new_table (itself_same table) is.done.concluded
+    concluded_told setup (with_outgoing old is.done.outgoing) table table is.done.verdict ended.fate new new_table (itself_same table) is.done.concluded
 way_told meaning setup old table octets m (effect.Counted ended) new new_table (inr (inr is)) =
     let d = is.done in
-    further_if_told (is_closing_conclusion d.conclusion) (Some d.further.child.spi) (pair_made d.conclusion) (with_outgoing old d.outgoing) table table setup.moment ended.child new new_table (itself_same table)
-    (counted_further d.conclusion d.further.child.spi (with_outgoing old d.outgoing) table setup.moment ended.child new new_table d.ends)
+    further_if_told (is_closing_conclusion d.conclusion) (Some d.further.child.spi) (pair_made d.conclusion) (with_outgoing old d.outgoing) table table setup.moment (made_by ended.fate) new new_table (itself_same table)
+    (counted_further d.conclusion d.further.child.spi (with_outgoing old d.outgoing) table setup.moment ended.fate new new_table d.ends)
 way_told meaning setup old table octets m (effect.Counted ended) new new_table (inr (inl is)) =
-    closed_if_told (is_ended is.done.payloads is.done.request.purpose) (gone_with table.pairs old.serial is.done.request.purpose) (with_outgoing old is.done.outgoing) table setup.moment ended.child new new_table is.done.concluded
+    closed_if_told (is_ended is.done.payloads is.done.request.purpose) (gone_with table.pairs old.serial is.done.request.purpose) (with_outgoing old is.done.outgoing) table setup.moment (made_by ended.fate) new new_table is.done.concluded
 
 pub pairs_told : (meaning : Meaning) (setup : Setup) (old : Association) (table : Database) (octets : Octets) (m : Message) (e : Effect) (new : Association) (new_table : Database) (serial : ℕ) (pair : Pair)
     → TakesMessage meaning setup old table octets m e new new_table → pair_at new_table.pairs serial ≡ Some pair → (pair_at table.pairs serial ≡ Some pair) ⊎ (child_in e ≡ Some serial)

@@ -45,6 +45,9 @@ use Rattle.effects.specs.declared.taking.Effect.TheVariants as effect
 use Rattle.effects.proofs.MapLemmas.{some_none}
 use Rattle.effects.proofs.RequestLemmas.{put_at, stays_sound, yes_no, FollowLaws, Windows}
 use Rattle.effects.proofs.WayLemmas.{answered_later, counted_later, way_of, Way}
+use Rattle.association.specs.Outcomes.{closed_by}
+use Rattle.association.specs.declared.outcome.Fate.{Fate}
+use Rattle.effects.proofs.FateLemmas.{concluded_fate}
 
 -- all that waits waited before, and all that waited waits
 abbrev Fewer : OwnRequests Request → OwnRequests Request → Type 0
@@ -78,14 +81,14 @@ given_up : (old new : OwnRequests Request) → GivesUpRequests old new → Fewer
 given_up old new is number request there =
     absurd (some_none request (sym (map.get-empty {X = Request} nat_cmp number) ∙ sym (ap (λ (r : OwnRequests Request). map.get r.outstanding number) is.content) ∙ there))
 
-concluded_fewer : (setup : Setup) (a : Association) (table : Database) (o : Outcome) (child : Option ℕ) (new : Association) (new_table : Database) → ConcludesBy setup a table o child new new_table → Fewer a.outgoing new.outgoing
-concluded_fewer setup a table outcome.Closes child new new_table is = given_up a.outgoing new.outgoing is.over.requests
-concluded_fewer setup a table (outcome.Establishes pair window) child new new_table is = λ number request there. sym (ap (λ (x : Association). map.get x.outgoing.outstanding number) is.content) ∙ there
+concluded_fewer : (setup : Setup) (a : Association) (table : Database) (o : Outcome) (came : Fate) (new : Association) (new_table : Database) → ConcludesBy setup a table o came new new_table → Fewer a.outgoing new.outgoing
+concluded_fewer setup a table outcome.Closes came new new_table is = given_up a.outgoing new.outgoing is.over.requests
+concluded_fewer setup a table (outcome.Establishes pair window) came new new_table is = λ number request there. sym (ap (λ (x : Association). map.get x.outgoing.outstanding number) is.content) ∙ there
 
-concluded_keeps : (setup : Setup) (a : Association) (table : Database) (o : Outcome) (child : Option ℕ) (new : Association) (new_table : Database) → ConcludesBy setup a table o child new new_table
+concluded_keeps : (setup : Setup) (a : Association) (table : Database) (o : Outcome) (came : Fate) (new : Association) (new_table : Database) → ConcludesBy setup a table o came new new_table
     → Keeps a.outgoing new.outgoing ⊎ (is_closing o ≡ true)
-concluded_keeps setup a table outcome.Closes child new new_table is = inr refl
-concluded_keeps setup a table (outcome.Establishes pair window) child new new_table is = inl (λ number request there. ap (λ (x : Association). map.get x.outgoing.outstanding number) is.content ∙ there)
+concluded_keeps setup a table outcome.Closes came new new_table is = inr refl
+concluded_keeps setup a table (outcome.Establishes pair window) came new new_table is = inl (λ number request there. ap (λ (x : Association). map.get x.outgoing.outstanding number) is.content ∙ there)
 
 closed_fewer : (ending : Bool) (serials : List ℕ) (a : Association) (table : Database) (moment : ℕ) (new : Association) (new_table : Database) → ClosesIf ending serials a table moment new new_table → Fewer a.outgoing new.outgoing
 closed_fewer true serials a table moment new new_table is = given_up a.outgoing new.outgoing is.requests
@@ -125,19 +128,19 @@ way_waits meaning setup old table octets m (effect.Refused fault) new new_table 
 way_waits meaning setup old table octets m (effect.Repeated reply) new new_table held is = λ number request there. inl (sym (ap (λ (x : Association). map.get x.outgoing.outstanding number) is.same.association) ∙ there)
 way_waits meaning setup old table octets m (effect.Replied answered) new new_table held (inl is) =
     let d = is.done in
-    fewer_wait setup.moment None old new (concluded_fewer setup (with_incoming old d.incoming) d.between (outcome_of d.decision) answered.child new new_table d.concluded)
+    fewer_wait setup.moment None old new (concluded_fewer setup (with_incoming old d.incoming) d.between (outcome_of d.decision) answered.fate new new_table d.concluded)
 way_waits meaning setup old table octets m (effect.Replied answered) new new_table held (inr is) =
     let d = answered_later meaning setup old table octets m answered new new_table is in
-    fewer_wait setup.moment None old new (closed_fewer answered.closed d.ends.serials (with_incoming old d.incoming) d.ends.before setup.moment new d.ends.after d.ends.is)
+    fewer_wait setup.moment None old new (closed_fewer (closed_by answered.fate) d.ends.serials (with_incoming old d.incoming) d.ends.before setup.moment new d.ends.after d.ends.is)
 way_waits meaning setup old table octets m (effect.Counted ended) new new_table held (inl is) =
     let d = is.done in
     fewer_wait setup.moment None old new
-    (λ number request there. counted_fewer old.outgoing m.header.id d.request d.outgoing d.counted number request (concluded_fewer setup (with_outgoing old d.outgoing) table d.verdict ended.child new new_table d.concluded number request there))
+    (λ number request there. counted_fewer old.outgoing m.header.id d.request d.outgoing d.counted number request (concluded_fewer setup (with_outgoing old d.outgoing) table d.verdict ended.fate new new_table d.concluded number request there))
 way_waits meaning setup old table octets m (effect.Counted ended) new new_table held (inr is) =
     let d = counted_later meaning setup old table octets m ended new new_table is in
     fewer_wait setup.moment None old new
     (λ number request there. counted_fewer old.outgoing m.header.id d.request d.outgoing d.counted number request
-    (closed_fewer ended.closed d.ends.serials (with_outgoing old d.outgoing) d.ends.before setup.moment new d.ends.after d.ends.is number request there))
+    (closed_fewer (closed_by ended.fate) d.ends.serials (with_outgoing old d.outgoing) d.ends.before setup.moment new d.ends.after d.ends.is number request there))
 way_waits meaning setup old table octets m (effect.Again next) new new_table held is =
     let takes : TakesCookie old new = record { before = is.sent; was = is.was; after = _; is = ap (λ (x : Association). x.phase) is.done.content; taken = refl } in
     λ number found there.
@@ -240,16 +243,16 @@ way_until meaning setup old table octets m (effect.Refused fault) new new_table 
 way_until meaning setup old table octets m (effect.Repeated reply) new new_table held is = λ number request there. inl (ap (λ (x : Association). map.get x.outgoing.outstanding number) is.same.association ∙ there)
 way_until meaning setup old table octets m (effect.Replied answered) new new_table held (inl is) =
     let d = is.done in
-    replied_until old.outgoing new.outgoing answered.closed (is_closing (outcome_of d.decision)) d.closed (concluded_keeps setup (with_incoming old d.incoming) d.between (outcome_of d.decision) answered.child new new_table d.concluded)
+    replied_until old.outgoing new.outgoing (closed_by answered.fate) (is_closing (outcome_of d.decision)) (concluded_fate setup (with_incoming old d.incoming) d.between (outcome_of d.decision) answered.fate new new_table d.concluded) (concluded_keeps setup (with_incoming old d.incoming) d.between (outcome_of d.decision) answered.fate new new_table d.concluded)
 way_until meaning setup old table octets m (effect.Replied answered) new new_table held (inr is) =
     let d = answered_later meaning setup old table octets m answered new new_table is in
-    replied_until old.outgoing new.outgoing answered.closed answered.closed refl (closed_keeps answered.closed d.ends.serials (with_incoming old d.incoming) d.ends.before setup.moment new d.ends.after d.ends.is)
+    replied_until old.outgoing new.outgoing (closed_by answered.fate) (closed_by answered.fate) refl (closed_keeps (closed_by answered.fate) d.ends.serials (with_incoming old d.incoming) d.ends.before setup.moment new d.ends.after d.ends.is)
 way_until meaning setup old table octets m (effect.Counted ended) new new_table held (inl is) =
     let d = is.done in
-    counted_until old.outgoing d.outgoing new.outgoing m.header.id d.request ended.closed (is_closing d.verdict) d.counted d.closed (concluded_keeps setup (with_outgoing old d.outgoing) table d.verdict ended.child new new_table d.concluded)
+    counted_until old.outgoing d.outgoing new.outgoing m.header.id d.request (closed_by ended.fate) (is_closing d.verdict) d.counted (concluded_fate setup (with_outgoing old d.outgoing) table d.verdict ended.fate new new_table d.concluded) (concluded_keeps setup (with_outgoing old d.outgoing) table d.verdict ended.fate new new_table d.concluded)
 way_until meaning setup old table octets m (effect.Counted ended) new new_table held (inr is) =
     let d = counted_later meaning setup old table octets m ended new new_table is in
-    counted_until old.outgoing d.outgoing new.outgoing m.header.id d.request ended.closed ended.closed d.counted refl (closed_keeps ended.closed d.ends.serials (with_outgoing old d.outgoing) d.ends.before setup.moment new d.ends.after d.ends.is)
+    counted_until old.outgoing d.outgoing new.outgoing m.header.id d.request (closed_by ended.fate) (closed_by ended.fate) d.counted refl (closed_keeps (closed_by ended.fate) d.ends.serials (with_outgoing old d.outgoing) d.ends.before setup.moment new d.ends.after d.ends.is)
 way_until meaning setup old table octets m (effect.Again next) new new_table held is = λ number request there. inr (init_number old is.sent number request held is.was there)
 way_until meaning setup old table octets m (effect.AsksAuth next) new new_table held is = λ number request there. inr (init_number old is.sent number request held is.was there)
 
@@ -271,10 +274,10 @@ closed_now a new moment keys at content is = closed_at keys (keys_in a.phase) at
 established_at : (keys : KeyRecord) (closed : Option KeyRecord) (at : ℕ) → phase.Established keys ≡ phase.Closed closed at → ⊥
 established_at keys closed at is = cc
 
-concluded_closes : (setup : Setup) (a : Association) (table : Database) (o : Outcome) (child : Option ℕ) (new : Association) (new_table : Database) (known : KeyRecord) (keys : Option KeyRecord) (at : ℕ)
-    → established_of a.phase ≡ phase.Established known → ConcludesBy setup a table o child new new_table → ClosesNow setup.moment (is_closing o) a new keys at
-concluded_closes setup a table outcome.Closes child new new_table known keys at was is = λ closed. inr (closed_now a new setup.moment keys at is.over.content closed, refl)
-concluded_closes setup a table (outcome.Establishes pair window) child new new_table known keys at was is =
+concluded_closes : (setup : Setup) (a : Association) (table : Database) (o : Outcome) (came : Fate) (new : Association) (new_table : Database) (known : KeyRecord) (keys : Option KeyRecord) (at : ℕ)
+    → established_of a.phase ≡ phase.Established known → ConcludesBy setup a table o came new new_table → ClosesNow setup.moment (is_closing o) a new keys at
+concluded_closes setup a table outcome.Closes came new new_table known keys at was is = λ closed. inr (closed_now a new setup.moment keys at is.over.content closed, refl)
+concluded_closes setup a table (outcome.Establishes pair window) came new new_table known keys at was is =
     λ closed. absurd (established_at known keys at (sym was ∙ sym (ap (λ (x : Association). x.phase) is.content) ∙ closed))
 
 ending_closes : (ending : Bool) (serials : List ℕ) (a : Association) (table : Database) (moment : ℕ) (new : Association) (new_table : Database) (keys : Option KeyRecord) (at : ℕ) → ClosesIf ending serials a table moment new new_table → ClosesNow moment ending a new keys at
@@ -296,18 +299,18 @@ way_closes meaning setup old table octets m (effect.Refused fault) new new_table
 way_closes meaning setup old table octets m (effect.Repeated reply) new new_table keys at is = λ closed. inl (sym (ap (λ (x : Association). x.phase) is.same.association) ∙ closed)
 way_closes meaning setup old table octets m (effect.Replied answered) new new_table keys at (inl is) =
     let d = is.done in
-    ends_too setup.moment answered.closed (is_closing (outcome_of d.decision)) (with_incoming old d.incoming) new keys at d.closed
-    (concluded_closes setup (with_incoming old d.incoming) d.between (outcome_of d.decision) answered.child new new_table d.opened.keys keys at (ap established_of d.was) d.concluded)
+    ends_too setup.moment (closed_by answered.fate) (is_closing (outcome_of d.decision)) (with_incoming old d.incoming) new keys at (concluded_fate setup (with_incoming old d.incoming) d.between (outcome_of d.decision) answered.fate new new_table d.concluded)
+    (concluded_closes setup (with_incoming old d.incoming) d.between (outcome_of d.decision) answered.fate new new_table d.opened.keys keys at (ap established_of d.was) d.concluded)
 way_closes meaning setup old table octets m (effect.Replied answered) new new_table keys at (inr is) =
     let d = answered_later meaning setup old table octets m answered new new_table is in
-    ending_closes answered.closed d.ends.serials (with_incoming old d.incoming) d.ends.before setup.moment new d.ends.after keys at d.ends.is
+    ending_closes (closed_by answered.fate) d.ends.serials (with_incoming old d.incoming) d.ends.before setup.moment new d.ends.after keys at d.ends.is
 way_closes meaning setup old table octets m (effect.Counted ended) new new_table keys at (inl is) =
     let d = is.done in
-    ends_too setup.moment ended.closed (is_closing d.verdict) (with_outgoing old d.outgoing) new keys at d.closed
-    (concluded_closes setup (with_outgoing old d.outgoing) table d.verdict ended.child new new_table d.sent.keys keys at (ap established_of d.was) d.concluded)
+    ends_too setup.moment (closed_by ended.fate) (is_closing d.verdict) (with_outgoing old d.outgoing) new keys at (concluded_fate setup (with_outgoing old d.outgoing) table d.verdict ended.fate new new_table d.concluded)
+    (concluded_closes setup (with_outgoing old d.outgoing) table d.verdict ended.fate new new_table d.sent.keys keys at (ap established_of d.was) d.concluded)
 way_closes meaning setup old table octets m (effect.Counted ended) new new_table keys at (inr is) =
     let d = counted_later meaning setup old table octets m ended new new_table is in
-    ending_closes ended.closed d.ends.serials (with_outgoing old d.outgoing) d.ends.before setup.moment new d.ends.after keys at d.ends.is
+    ending_closes (closed_by ended.fate) d.ends.serials (with_outgoing old d.outgoing) d.ends.before setup.moment new d.ends.after keys at d.ends.is
 way_closes meaning setup old table octets m (effect.Again next) new new_table keys at is = λ closed. absurd (init_closed _ keys at (sym (ap (λ (x : Association). x.phase) is.done.content) ∙ closed))
 way_closes meaning setup old table octets m (effect.AsksAuth next) new new_table keys at is = λ closed. absurd (auth_closed _ keys at (sym (ap (λ (x : Association). x.phase) is.done.content) ∙ closed))
 

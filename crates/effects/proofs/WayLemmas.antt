@@ -1,5 +1,5 @@
 -- What a message did to an IKE SA, by what came of it.
-use Rattle.std.proofs.Common.{◌≡◌, ◌≢◌, ◌==◌, ◌⊎◌, inl, inr, ℕ, Bool, true, false, List, [], Option, Some, None, arith, refl, subst, sym}
+use Rattle.std.proofs.Common.{◌≡◌, ◌≢◌, ◌==◌, ◌⊎◌, inl, inr, ℕ, Bool, true, false, List, [], Option, Some, None, arith, ap, refl, subst, sym, ◌∙◌}
 use Rattle.base.specs.Octets.{Octets}
 use Rattle.wire.specs.Numbers.{CREATE_CHILD_SA, INFORMATIONAL}
 use Rattle.wire.specs.declared.message.Message.{Message}
@@ -30,9 +30,9 @@ use Rattle.setup.specs.Configs.{Setup}
 use Rattle.initial.specs.Ending.{EndsAuth}
 use Rattle.initial.specs.Reading.{waiting_of, BringsCookie, Continues, TellsIdentity}
 use Rattle.deletions.specs.Answering.{payloads_of_verdict}
-use Rattle.deletions.specs.Deciding.{verdict_on}
+use Rattle.deletions.specs.Deciding.{is_closing_verdict, verdict_on}
 use Rattle.informational.specs.Answering.{gone_by, AnswersInformational}
-use Rattle.informational.specs.Counting.{gone_with, CountsInformational}
+use Rattle.informational.specs.Counting.{gone_with, is_ended, CountsInformational}
 use Rattle.informational.specs.Orders.{ClosesIf, RemovesOwn}
 use Rattle.further.specs.Answering.{answer_to_further, further_answer, further_pair}
 use Rattle.further.specs.Deciding.{is_closing_decision}
@@ -47,6 +47,10 @@ use Rattle.initial.specs.declared.reading.Continued.{Continued}
 use Rattle.initial.specs.declared.reading.Continued.TheVariants as continued
 use Rattle.effects.specs.declared.taking.Effect.{Effect}
 use Rattle.effects.specs.declared.taking.Effect.TheVariants as effect
+use Rattle.association.specs.Outcomes.{closed_by, made_by}
+use Rattle.association.specs.declared.outcome.Fate.{Fate}
+use Rattle.association.specs.declared.outcome.Fate.TheVariants as fate
+use Rattle.effects.proofs.FateLemmas.{answered_fate, childless_closed, counted_fate}
 
 pub record WasRepeated (meaning : Meaning) (old : Association) (table : Database) (octets : Octets) (m : Message) (reply : Octets) (new : Association) (new_table : Database) : Type 0 where
   pub received : IsReceived meaning.plain_of old octets m (Repeat reply)
@@ -208,13 +212,15 @@ abbrev pub FurtherIf : Bool → Option ℕ → Option Pair → Association → D
 FurtherIf true spi pair a table moment child new new_table = EndsHolding spi a table moment child new new_table
 FurtherIf false spi pair a table moment child new new_table = StaysWith spi pair a table child new new_table
 
-pub answered_further : (closing : Bool) (pair : Option Pair) (a : Association) (table : Database) (moment : ℕ) (child : Option ℕ) (new : Association) (new_table : Database)
-    → ConcludesFurther closing pair a table moment child new new_table → FurtherIf closing None pair a table moment child new new_table
-answered_further true pair a table moment child new new_table is = record { none = is.0; between = table; given_up = refl; over = is.1 }
-answered_further false None a table moment None new new_table is = record { same = is.0; added = is.1 }
-answered_further false None a table moment (Some serial) new new_table is = absurd is.1
-answered_further false (Some pair) a table moment None new new_table is = absurd is.1
-answered_further false (Some pair) a table moment (Some serial) new new_table is = record { same = is.0; added = is.1 }
+pub answered_further : (closing : Bool) (pair : Option Pair) (a : Association) (table : Database) (moment : ℕ) (came : Fate) (new : Association) (new_table : Database)
+    → ConcludesFurther closing pair a table moment came new new_table → FurtherIf closing None pair a table moment (made_by came) new new_table
+answered_further true pair a table moment came new new_table is = record { none = ap made_by is.0; between = table; given_up = refl; over = is.1 }
+answered_further false None a table moment fate.Stands new new_table is = record { same = is.0; added = is.1 }
+answered_further false None a table moment (fate.Made serial) new new_table is = absurd is.1
+answered_further false None a table moment fate.Closed new new_table is = absurd is.1
+answered_further false (Some pair) a table moment fate.Stands new new_table is = absurd is.1
+answered_further false (Some pair) a table moment (fate.Made serial) new new_table is = record { same = is.0; added = is.1 }
+answered_further false (Some pair) a table moment fate.Closed new new_table is = absurd is.1
 
 -- the SA pair that is made of a response
 abbrev pub pair_made : Conclusion → Option Pair
@@ -222,13 +228,13 @@ pair_made conclusion.Closes = None
 pair_made (conclusion.Made pair) = Some pair
 pair_made conclusion.NoChild = None
 
-pub counted_further : (c : Conclusion) (spi : ℕ) (a : Association) (table : Database) (moment : ℕ) (child : Option ℕ) (new : Association) (new_table : Database)
-    → EndsFurther c spi a table moment child new new_table → FurtherIf (is_closing_conclusion c) (Some spi) (pair_made c) a table moment child new new_table
-counted_further conclusion.Closes spi a table moment child new new_table is = record { none = is.none; between = is.between; given_up = is.released; over = is.over }
-counted_further (conclusion.Made pair) spi a table moment child new new_table is =
-    subst (λ (c : Option ℕ). StaysWith (Some spi) (Some pair) a table c new new_table) (sym is.told) (record { same = is.same; added = is.installed })
-counted_further conclusion.NoChild spi a table moment child new new_table is =
-    subst (λ (c : Option ℕ). StaysWith (Some spi) None a table c new new_table) (sym is.none) (record { same = is.same; added = is.released })
+pub counted_further : (c : Conclusion) (spi : ℕ) (a : Association) (table : Database) (moment : ℕ) (came : Fate) (new : Association) (new_table : Database)
+    → EndsFurther c spi a table moment came new new_table → FurtherIf (is_closing_conclusion c) (Some spi) (pair_made c) a table moment (made_by came) new new_table
+counted_further conclusion.Closes spi a table moment came new new_table is = record { none = ap made_by is.closed; between = is.between; given_up = is.released; over = is.over }
+counted_further (conclusion.Made pair) spi a table moment came new new_table is =
+    subst (λ (c : Option ℕ). StaysWith (Some spi) (Some pair) a table c new new_table) (sym (ap made_by is.told)) (record { same = is.same; added = is.installed })
+counted_further conclusion.NoChild spi a table moment came new new_table is =
+    subst (λ (c : Option ℕ). StaysWith (Some spi) None a table c new new_table) (sym (ap made_by is.stands)) (record { same = is.same; added = is.released })
 
 -- ---- what an exchange at an established IKE SA comes to, as far as the IKE SA goes
 
@@ -264,7 +270,7 @@ pub record AnsweredLater (meaning : Meaning) (setup : Setup) (old : Association)
   pub ready : PeerRequests
   pub prepared : HasSameRequests old.incoming ready
   pub taken : TakesRequest ready m.header.id answered.octets incoming
-  pub ends : EndsOrStays answered.closed (with_incoming old incoming) setup.moment new
+  pub ends : EndsOrStays (closed_by answered.fate) (with_incoming old incoming) setup.moment new
 
 pub informed_later : (meaning : Meaning) (setup : Setup) (old : Association) (table : Database) (m : Message) (plain : Plain) (answered : Answered) (new : Association) (new_table : Database)
     → AnswersInformational meaning.body_of setup old table m.header.id plain answered new new_table → AnsweredLater meaning setup old m answered new
@@ -279,7 +285,7 @@ informed_later meaning setup old table m plain answered new new_table d =
       ready = d.ready;
       prepared = d.prepared;
       taken = d.taken;
-      ends = subst (λ (b : Bool). EndsOrStays b (with_incoming old d.incoming) setup.moment new) (sym d.closed)
+      ends = subst (λ (b : Bool). EndsOrStays b (with_incoming old d.incoming) setup.moment new) (sym (ap closed_by d.fate ∙ childless_closed (is_closing_verdict (verdict_on table.pairs old.serial d.payloads))))
           (record { serials = gone_by (verdict_on table.pairs old.serial d.payloads); before = table; after = new_table; is = d.concluded });
     }
 
@@ -296,9 +302,9 @@ further_later meaning setup old table m plain answered new new_table d =
       ready = d.ready;
       prepared = d.prepared;
       taken = d.taken;
-      ends = subst (λ (b : Bool). EndsOrStays b (with_incoming old d.incoming) setup.moment new) (sym d.closed)
-          (further_ends (is_closing_decision d.decision) None (further_pair d.decision) (with_incoming old d.incoming) d.between setup.moment answered.child new new_table
-          (answered_further (is_closing_decision d.decision) (further_pair d.decision) (with_incoming old d.incoming) d.between setup.moment answered.child new new_table d.concluded));
+      ends = subst (λ (b : Bool). EndsOrStays b (with_incoming old d.incoming) setup.moment new) (sym (answered_fate (is_closing_decision d.decision) (further_pair d.decision) (with_incoming old d.incoming) d.between setup.moment answered.fate new new_table d.concluded))
+          (further_ends (is_closing_decision d.decision) None (further_pair d.decision) (with_incoming old d.incoming) d.between setup.moment (made_by answered.fate) new new_table
+          (answered_further (is_closing_decision d.decision) (further_pair d.decision) (with_incoming old d.incoming) d.between setup.moment answered.fate new new_table d.concluded));
     }
 
 pub answered_later : (meaning : Meaning) (setup : Setup) (old : Association) (table : Database) (octets : Octets) (m : Message) (answered : Answered) (new : Association) (new_table : Database)
@@ -312,7 +318,7 @@ pub record CountedLater (setup : Setup) (old : Association) (m : Message) (ended
   pub request : Request
   pub outgoing : OwnRequests Request
   pub counted : CountsAnswer old.outgoing m.header.id request outgoing
-  pub ends : EndsOrStays ended.closed (with_outgoing old outgoing) setup.moment new
+  pub ends : EndsOrStays (closed_by ended.fate) (with_outgoing old outgoing) setup.moment new
 
 pub counted_later : (meaning : Meaning) (setup : Setup) (old : Association) (table : Database) (octets : Octets) (m : Message) (ended : Ended) (new : Association) (new_table : Database)
     → CountedInformational setup old table m ended new new_table ⊎ CountedFurther meaning setup old table octets m ended new new_table → CountedLater setup old m ended new
@@ -324,7 +330,7 @@ counted_later meaning setup old table octets m ended new new_table (inl is) =
       request = d.request;
       outgoing = d.outgoing;
       counted = d.counted;
-      ends = subst (λ (b : Bool). EndsOrStays b (with_outgoing old d.outgoing) setup.moment new) (sym d.closed)
+      ends = subst (λ (b : Bool). EndsOrStays b (with_outgoing old d.outgoing) setup.moment new) (sym (ap closed_by d.fate ∙ childless_closed (is_ended d.payloads d.request.purpose)))
           (record { serials = gone_with table.pairs old.serial d.request.purpose; before = table; after = new_table; is = d.concluded });
     }
 counted_later meaning setup old table octets m ended new new_table (inr is) =
@@ -335,7 +341,7 @@ counted_later meaning setup old table octets m ended new new_table (inr is) =
       request = d.request;
       outgoing = d.outgoing;
       counted = d.counted;
-      ends = subst (λ (b : Bool). EndsOrStays b (with_outgoing old d.outgoing) setup.moment new) (sym d.closed)
-          (further_ends (is_closing_conclusion d.conclusion) (Some d.further.child.spi) (pair_made d.conclusion) (with_outgoing old d.outgoing) table setup.moment ended.child new new_table
-          (counted_further d.conclusion d.further.child.spi (with_outgoing old d.outgoing) table setup.moment ended.child new new_table d.ends));
+      ends = subst (λ (b : Bool). EndsOrStays b (with_outgoing old d.outgoing) setup.moment new) (sym (counted_fate d.conclusion d.further.child.spi (with_outgoing old d.outgoing) table setup.moment ended.fate new new_table d.ends))
+          (further_ends (is_closing_conclusion d.conclusion) (Some d.further.child.spi) (pair_made d.conclusion) (with_outgoing old d.outgoing) table setup.moment (made_by ended.fate) new new_table
+          (counted_further d.conclusion d.further.child.spi (with_outgoing old d.outgoing) table setup.moment ended.fate new new_table d.ends));
     }

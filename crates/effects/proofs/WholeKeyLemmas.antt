@@ -43,6 +43,8 @@ use Rattle.effects.proofs.DeterminedEffects.{refused_is, repeated_is, request_is
 use Rattle.effects.proofs.DeterminedLaws.{KeyLaws}
 use Rattle.effects.proofs.DeterminedReadings.{gives_whole}
 use Rattle.effects.proofs.WayLemmas.{answered_further, counted_further, pair_made, FurtherIf}
+use Rattle.association.specs.Outcomes.{made_by}
+use Rattle.association.specs.declared.outcome.Fate.{Fate}
 
 abbrev held_keys : Association → Option KeyRecord
 held_keys a = keys_in a.phase
@@ -57,9 +59,9 @@ keys_established (phase.HalfOpen p) = refl
 keys_established (phase.Established p) = refl
 keys_established (phase.Closed p at) = refl
 
-concluded_keys : (setup : Setup) (o : Outcome) (old : Association) (table : Database) (child : Option ℕ) (new : Association) (new_table : Database) → ConcludesBy setup old table o child new new_table → held_keys new ≡ held_keys old
-concluded_keys setup outcome.Closes old table child new new_table is = ap held_keys is.over.content
-concluded_keys setup (outcome.Establishes pair window) old table child new new_table is = ap held_keys is.content ∙ keys_established old.phase
+concluded_keys : (setup : Setup) (o : Outcome) (old : Association) (table : Database) (came : Fate) (new : Association) (new_table : Database) → ConcludesBy setup old table o came new new_table → held_keys new ≡ held_keys old
+concluded_keys setup outcome.Closes old table came new new_table is = ap held_keys is.over.content
+concluded_keys setup (outcome.Establishes pair window) old table came new new_table is = ap held_keys is.content ∙ keys_established old.phase
 
 closed_if_keys : (ending : Bool) (serials : List ℕ) (old : Association) (table : Database) (moment : ℕ) (new : Association) (new_table : Database) → ClosesIf ending serials old table moment new new_table → held_keys new ≡ held_keys old
 closed_if_keys true serials old table moment new new_table is = ap held_keys is.content
@@ -100,14 +102,14 @@ module _ (meaning : Meaning) (setup : Setup) (number : ℕ) (plain : Plain) (old
   further_whole false is =
       let d = is.answers in
       let taken : Association = record old { incoming = d.incoming } in
-      whole_still old.phase new.phase (further_if_keys (is_closing_decision d.decision) None (further_pair d.decision) taken d.between setup.moment is.answered.child new new_table
-      (answered_further (is_closing_decision d.decision) (further_pair d.decision) taken d.between setup.moment is.answered.child new new_table d.concluded)) whole
+      whole_still old.phase new.phase (further_if_keys (is_closing_decision d.decision) None (further_pair d.decision) taken d.between setup.moment (made_by is.answered.fate) new new_table
+      (answered_further (is_closing_decision d.decision) (further_pair d.decision) taken d.between setup.moment is.answered.fate new new_table d.concluded)) whole
 
   request_whole : (p : Phase) (exchange : ℕ) → RequestDone meaning setup number plain old table new new_table p exchange e → HoldsWholeKeys new.phase
   request_whole (phase.InitSent p) exchange is = passed_whole old table new new_table whole is.passed
   request_whole (phase.AuthSent p) exchange is = passed_whole old table new new_table whole is.passed
   request_whole (phase.HalfOpen p) exchange is =
-      whole_still old.phase new.phase (concluded_keys setup (outcome_of is.answers.decision) (record old { incoming = is.answers.incoming }) is.answers.between is.answered.child new new_table is.answers.concluded) whole
+      whole_still old.phase new.phase (concluded_keys setup (outcome_of is.answers.decision) (record old { incoming = is.answers.incoming }) is.answers.between is.answered.fate new new_table is.answers.concluded) whole
   request_whole (phase.Established p) exchange is = further_whole (exchange == INFORMATIONAL) is
   request_whole (phase.Closed p at) exchange is = passed_whole old table new new_table whole is.passed
 
@@ -115,14 +117,14 @@ module _ (meaning : Meaning) (setup : Setup) (number : ℕ) (plain : Plain) (old
   answer_whole true is =
       let d = is.counts in
       let counted : Association = record old { outgoing = d.outgoing } in
-      whole_still old.phase new.phase (further_if_keys (is_closing_conclusion d.conclusion) (Some d.further.child.spi) (pair_made d.conclusion) counted table setup.moment is.ended.child new new_table
-      (counted_further d.conclusion d.further.child.spi counted table setup.moment is.ended.child new new_table d.ends)) whole
+      whole_still old.phase new.phase (further_if_keys (is_closing_conclusion d.conclusion) (Some d.further.child.spi) (pair_made d.conclusion) counted table setup.moment (made_by is.ended.fate) new new_table
+      (counted_further d.conclusion d.further.child.spi counted table setup.moment is.ended.fate new new_table d.ends)) whole
   answer_whole false is =
       whole_still old.phase new.phase (closed_if_keys (is_ended is.counts.payloads is.counts.request.purpose) (gone_with table.pairs old.serial is.counts.request.purpose) (record old { outgoing = is.counts.outgoing }) table setup.moment new new_table is.counts.concluded) whole
 
   response_whole : (p : Phase) → ResponseDone meaning setup number plain old table new new_table p e → HoldsWholeKeys new.phase
   response_whole (phase.InitSent p) is = passed_whole old table new new_table whole is.passed
-  response_whole (phase.AuthSent p) is = whole_still old.phase new.phase (concluded_keys setup is.ends.verdict (record old { outgoing = is.ends.outgoing }) table is.ended.child new new_table is.ends.concluded) whole
+  response_whole (phase.AuthSent p) is = whole_still old.phase new.phase (concluded_keys setup is.ends.verdict (record old { outgoing = is.ends.outgoing }) table is.ended.fate new new_table is.ends.concluded) whole
   response_whole (phase.HalfOpen p) is = passed_whole old table new new_table whole is.passed
   response_whole (phase.Established p) is = answer_whole (asked_further old number) is
   response_whole (phase.Closed p at) is = passed_whole old table new new_table whole is.passed

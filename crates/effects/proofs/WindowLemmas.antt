@@ -39,6 +39,8 @@ use Rattle.effects.specs.declared.taking.Effect.{Effect}
 use Rattle.effects.specs.declared.taking.Effect.TheVariants as effect
 use Rattle.effects.proofs.RequestLemmas.{counted_window, issued_window, taken_size, yes_no}
 use Rattle.effects.proofs.WayLemmas.{answered_later, counted_later, way_of, Way}
+use Rattle.association.specs.Outcomes.{closed_by}
+use Rattle.association.specs.declared.outcome.Fate.{Fate}
 
 -- what is known of what a message is
 pub record OpeningLaws : Type 0 where
@@ -65,14 +67,14 @@ judged_tells accepts setup ike sent None (outcome.Establishes pair window) is = 
 judged_tells accepts setup ike sent (Some payloads) outcome.Closes is = tt
 judged_tells accepts setup ike sent (Some payloads) (outcome.Establishes pair window) is = is.told
 
-auth_peers : (plain_of : Opening) (setup : Setup) (octets : Octets) (m : Message) (old a : Association) (table : Database) (o : Outcome) (child : Option ℕ) (new : Association) (new_table : Database)
+auth_peers : (plain_of : Opening) (setup : Setup) (octets : Octets) (m : Message) (old a : Association) (table : Database) (o : Outcome) (came : Fate) (new : Association) (new_table : Database)
     (keys : KeyRecord) (plain : Plain) (payloads : Option (List Payload))
     → is_concluded old.phase ≡ false → a.outgoing.window ≡ old.outgoing.window → established_of a.phase ≡ phase.Established keys → opened_by plain_of old octets m.payloads ≡ Some plain → IsRead plain payloads
-    → TellsBy payloads o → ConcludesBy setup a table o child new new_table → KeepsPeersWindow plain_of octets m old new
-auth_peers plain_of setup octets m old a table outcome.Closes child new new_table keys plain payloads open_yet same was opened read tells is =
+    → TellsBy payloads o → ConcludesBy setup a table o came new new_table → KeepsPeersWindow plain_of octets m old new
+auth_peers plain_of setup octets m old a table outcome.Closes came new new_table keys plain payloads open_yet same was opened read tells is =
     inl (ap (λ (r : OwnRequests Request). r.window) is.over.requests.content ∙ same)
-auth_peers plain_of setup octets m old a table (outcome.Establishes pair window) child new new_table keys plain None open_yet same was opened read tells is = absurd tells
-auth_peers plain_of setup octets m old a table (outcome.Establishes pair window) child new new_table keys plain (Some payloads) open_yet same was opened read tells is =
+auth_peers plain_of setup octets m old a table (outcome.Establishes pair window) came new new_table keys plain None open_yet same was opened read tells is = absurd tells
+auth_peers plain_of setup octets m old a table (outcome.Establishes pair window) came new new_table keys plain (Some payloads) open_yet same was opened read tells is =
     inr (record {
       before = open_yet;
       after = record { keys = keys; is = ap (λ (x : Association). x.phase) is.content ∙ was };
@@ -93,23 +95,23 @@ way_peers laws meaning setup old table octets m (effect.Refused fault) new new_t
 way_peers laws meaning setup old table octets m (effect.Repeated reply) new new_table held is = inl (ap (λ (x : Association). x.outgoing.window) is.same.association)
 way_peers laws meaning setup old table octets m (effect.Replied answered) new new_table held (inl is) =
     let d = is.done in
-    auth_peers meaning.plain_of setup octets m old (with_incoming old d.incoming) d.between (outcome_of d.decision) answered.child new new_table d.opened.keys is.plain d.decided.payloads
+    auth_peers meaning.plain_of setup octets m old (with_incoming old d.incoming) d.between (outcome_of d.decision) answered.fate new new_table d.opened.keys is.plain d.decided.payloads
     (ap is_concluded d.was) refl (ap established_of d.was) (laws.effective meaning.plain_of old octets m is.plain is.received).opened d.decided.read
     (decided_tells meaning.accepts setup old.serial d.opened table d.decided.payloads d.decision d.decided.due) d.concluded
 way_peers laws meaning setup old table octets m (effect.Replied answered) new new_table held (inr is) =
     let d = answered_later meaning setup old table octets m answered new new_table is in
-    inl (window_if answered.closed d.ends.serials (with_incoming old d.incoming) d.ends.before setup.moment new d.ends.after d.ends.is)
+    inl (window_if (closed_by answered.fate) d.ends.serials (with_incoming old d.incoming) d.ends.before setup.moment new d.ends.after d.ends.is)
 way_peers laws meaning setup old table octets m (effect.Again next) new new_table held is = inl (ap (λ (r : OwnRequests Request). r.window) is.done.replaced.content)
 way_peers laws meaning setup old table octets m (effect.AsksAuth next) new new_table held is =
     inl (issued_window number_0_answered (new_request next Identify setup.moment) new.outgoing is.done.issued ∙ sym (held.took_none (inl (record { sent = is.sent; is = is.was }))).window)
 way_peers laws meaning setup old table octets m (effect.Counted ended) new new_table held (inl is) =
     let d = is.done in
-    auth_peers meaning.plain_of setup octets m old (with_outgoing old d.outgoing) table d.verdict ended.child new new_table d.sent.keys is.plain d.judged.payloads
+    auth_peers meaning.plain_of setup octets m old (with_outgoing old d.outgoing) table d.verdict ended.fate new new_table d.sent.keys is.plain d.judged.payloads
     (ap is_concluded d.was) (counted_window old.outgoing m.header.id d.request d.outgoing d.counted) (ap established_of d.was) (laws.answering meaning.plain_of old octets m is.plain is.received).opened d.judged.read
     (judged_tells meaning.accepts setup old.serial d.sent d.judged.payloads d.verdict d.judged.due) d.concluded
 way_peers laws meaning setup old table octets m (effect.Counted ended) new new_table held (inr is) =
     let d = counted_later meaning setup old table octets m ended new new_table is in
-    inl (window_if ended.closed d.ends.serials (with_outgoing old d.outgoing) d.ends.before setup.moment new d.ends.after d.ends.is ∙ counted_window old.outgoing m.header.id d.request d.outgoing d.counted)
+    inl (window_if (closed_by ended.fate) d.ends.serials (with_outgoing old d.outgoing) d.ends.before setup.moment new d.ends.after d.ends.is ∙ counted_window old.outgoing m.header.id d.request d.outgoing d.counted)
 
 pub keeps_peers : OpeningLaws → (meaning : Meaning) (setup : Setup) (old : Association) (table : Database) (octets : Octets) (m : Message) (e : Effect) (new : Association) (new_table : Database)
     → IsSoundlyHeld old → TakesMessage meaning setup old table octets m e new new_table → KeepsPeersWindow meaning.plain_of octets m old new
@@ -131,14 +133,14 @@ sent_established sent known e = cc
 abbrev Widens : Opening → ℕ → Octets → Message → Association → Association → Type 0
 Widens plain_of own octets m old new = WidensWindow own old new × WidensPeersWindow plain_of octets m old new
 
-auth_widens : (plain_of : Opening) (setup : Setup) (octets : Octets) (m : Message) (old a : Association) (table : Database) (o : Outcome) (child : Option ℕ) (new : Association) (new_table : Database)
+auth_widens : (plain_of : Opening) (setup : Setup) (octets : Octets) (m : Message) (old a : Association) (table : Database) (o : Outcome) (came : Fate) (new : Association) (new_table : Database)
     (plain : Plain) (payloads : Option (List Payload))
     → is_concluded old.phase ≡ false → IsEstablished new.phase → a.incoming.size ≡ old.incoming.size → a.outgoing.window ≡ old.outgoing.window → opened_by plain_of old octets m.payloads ≡ Some plain → IsRead plain payloads
-    → TellsBy payloads o → ConcludesBy setup a table o child new new_table → Widens plain_of setup.config.window octets m old new
-auth_widens plain_of setup octets m old a table outcome.Closes child new new_table plain payloads open_yet stands same_in same opened read tells is =
+    → TellsBy payloads o → ConcludesBy setup a table o came new new_table → Widens plain_of setup.config.window octets m old new
+auth_widens plain_of setup octets m old a table outcome.Closes came new new_table plain payloads open_yet stands same_in same opened read tells is =
     absurd (closed_established _ setup.moment stands.keys (sym (ap (λ (x : Association). x.phase) is.over.content) ∙ stands.is))
-auth_widens plain_of setup octets m old a table (outcome.Establishes pair window) child new new_table plain None open_yet stands same_in same opened read tells is = absurd tells
-auth_widens plain_of setup octets m old a table (outcome.Establishes pair window) child new new_table plain (Some payloads) open_yet stands same_in same opened read tells is = (
+auth_widens plain_of setup octets m old a table (outcome.Establishes pair window) came new new_table plain None open_yet stands same_in same opened read tells is = absurd tells
+auth_widens plain_of setup octets m old a table (outcome.Establishes pair window) came new new_table plain (Some payloads) open_yet stands same_in same opened read tells is = (
   record { before = open_yet; after = stands; size = ap (λ (x : Association). x.incoming.size) is.content ∙ ap (max setup.config.window) same_in },
   record {
     before = open_yet;
@@ -159,7 +161,7 @@ way_widens laws meaning setup old table octets m (effect.Refused fault) new new_
 way_widens laws meaning setup old table octets m (effect.Repeated reply) new new_table open_yet stands is = absurd (still_established old new is.same.association stands open_yet)
 way_widens laws meaning setup old table octets m (effect.Replied answered) new new_table open_yet stands (inl is) =
     let d = is.done in
-    auth_widens meaning.plain_of setup octets m old (with_incoming old d.incoming) d.between (outcome_of d.decision) answered.child new new_table is.plain d.decided.payloads
+    auth_widens meaning.plain_of setup octets m old (with_incoming old d.incoming) d.between (outcome_of d.decision) answered.fate new new_table is.plain d.decided.payloads
     open_yet stands (taken_size old.incoming d.ready m.header.id answered.octets d.incoming d.prepared d.taken) refl (laws.effective meaning.plain_of old octets m is.plain is.received).opened d.decided.read
     (decided_tells meaning.accepts setup old.serial d.opened table d.decided.payloads d.decision d.decided.due) d.concluded
 way_widens laws meaning setup old table octets m (effect.Replied answered) new new_table open_yet stands (inr is) =
@@ -171,7 +173,7 @@ way_widens laws meaning setup old table octets m (effect.AsksAuth next) new new_
     absurd (sent_established _ stands.keys (sym (ap (λ (x : Association). x.phase) is.done.content) ∙ stands.is))
 way_widens laws meaning setup old table octets m (effect.Counted ended) new new_table open_yet stands (inl is) =
     let d = is.done in
-    auth_widens meaning.plain_of setup octets m old (with_outgoing old d.outgoing) table d.verdict ended.child new new_table is.plain d.judged.payloads
+    auth_widens meaning.plain_of setup octets m old (with_outgoing old d.outgoing) table d.verdict ended.fate new new_table is.plain d.judged.payloads
     open_yet stands refl (counted_window old.outgoing m.header.id d.request d.outgoing d.counted) (laws.answering meaning.plain_of old octets m is.plain is.received).opened d.judged.read
     (judged_tells meaning.accepts setup old.serial d.sent d.judged.payloads d.verdict d.judged.due) d.concluded
 way_widens laws meaning setup old table octets m (effect.Counted ended) new new_table open_yet stands (inr is) =

@@ -11,6 +11,7 @@ use Rattle.association.specs.declared.phase.Phase.TheVariants as phase
 use Rattle.association.specs.declared.phase.Request.{Request}
 use Rattle.effects.specs.declared.taking.Effect.{Effect}
 use Rattle.effects.specs.declared.taking.Effect.TheVariants as effect
+use Rattle.association.specs.Outcomes.{made_by}
 
 -- a message can have so many octets
 abbrev pub IsShort : Octets → Type 0
@@ -41,10 +42,10 @@ octets_of_effect (effect.Counted ended) = None
 abbrev pub child_in : Effect → Option ℕ
 child_in (effect.Refused fault) = None
 child_in (effect.Repeated octets) = None
-child_in (effect.Replied answered) = answered.child
+child_in (effect.Replied answered) = made_by answered.fate
 child_in (effect.Again octets) = None
 child_in (effect.AsksAuth octets) = None
-child_in (effect.Counted ended) = ended.child
+child_in (effect.Counted ended) = made_by ended.fate
 
 -- both ends have come to keys
 pub record HasKeys (p : Phase) : Type 0 where

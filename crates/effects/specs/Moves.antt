@@ -19,6 +19,7 @@ use Rattle.association.specs.declared.phase.Request.{Request}
 use Rattle.auth.specs.Windows.{WINDOW_LIMIT}
 use Rattle.effects.specs.declared.taking.Effect.{Effect}
 use Rattle.effects.specs.declared.taking.Effect.TheVariants as effect
+use Rattle.association.specs.Outcomes.{closed_by}
 
 pub data Move : Type 0 where
   -- this end has come to these keys (section 2.14)
@@ -169,8 +170,8 @@ moves_of number keys (effect.Refused fault) = []
 moves_of number keys (effect.Repeated octets) = []
 moves_of number keys (effect.Again octets) = []
 moves_of number keys (effect.AsksAuth octets) = makes_and_issues keys octets
-moves_of number keys (effect.Replied answered) = and_closes (TakeEffect number answered.octets) answered.closed
-moves_of number keys (effect.Counted ended) = and_closes (Count number) ended.closed
+moves_of number keys (effect.Replied answered) = and_closes (TakeEffect number answered.octets) (closed_by answered.fate)
+moves_of number keys (effect.Counted ended) = and_closes (Count number) (closed_by ended.fate)
 
 -- a cached response to the request with this Message ID
 abbrev pub KeepsReply : Option Ledger → ℕ → Octets → Type 0

@@ -19,6 +19,7 @@ use Rattle.association.specs.declared.purpose.Purpose.{Purpose}
 use Rattle.association.specs.declared.purpose.Purpose.TheVariants.{Begin, Identify}
 use Rattle.effects.specs.declared.taking.Effect.{Effect}
 use Rattle.effects.specs.declared.taking.Effect.TheVariants as effect
+use Rattle.association.specs.Outcomes.{closed_by}
 
 -- by an exchange of an established IKE SA: INFORMATIONAL, or CREATE_CHILD_SA
 abbrev pub IsAskedLater : Purpose → Type 0
@@ -81,8 +82,8 @@ KeepTimers moment sent old new =
 
 -- this ends the IKE SA
 abbrev pub ClosesAssociation : Effect → Type 0
-ClosesAssociation (effect.Replied answered) = answered.closed ≡ true
-ClosesAssociation (effect.Counted ended) = ended.closed ≡ true
+ClosesAssociation (effect.Replied answered) = closed_by answered.fate ≡ true
+ClosesAssociation (effect.Counted ended) = closed_by ended.fate ≡ true
 ClosesAssociation _ = ⊥
 
 -- A request with this Message ID waits no more, by a message with that one. It is answered, or the IKE SA
@@ -91,10 +92,10 @@ ClosesAssociation _ = ⊥
 abbrev pub WaitsNoMore : ℕ → Effect → ℕ → Type 0
 WaitsNoMore id (effect.Refused fault) number = ⊥
 WaitsNoMore id (effect.Repeated octets) number = ⊥
-WaitsNoMore id (effect.Replied answered) number = answered.closed ≡ true
+WaitsNoMore id (effect.Replied answered) number = closed_by answered.fate ≡ true
 WaitsNoMore id (effect.Again octets) number = number ≡ 0
 WaitsNoMore id (effect.AsksAuth octets) number = number ≡ 0
-WaitsNoMore id (effect.Counted ended) number = (number ≡ id) ⊎ (ended.closed ≡ true)
+WaitsNoMore id (effect.Counted ended) number = (number ≡ id) ⊎ (closed_by ended.fate ≡ true)
 
 -- what was outstanding still is, unless it stops so
 abbrev pub WaitUntil : ℕ → Effect → OwnRequests Request → OwnRequests Request → Type 0

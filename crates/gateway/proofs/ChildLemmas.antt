@@ -79,6 +79,7 @@ use Rattle.gateway.proofs.MoveLemmas.{said_octets, TurnLaws}
 use Rattle.gateway.proofs.PartyLemmas.{none_some, single, some_is}
 use Rattle.gateway.proofs.SoundWorldLemmas.{each_end, still_sent}
 use Rattle.gateway.proofs.WorldLemmas.{stored_at}
+use Rattle.association.specs.Outcomes.{made_by as serial_made}
 
 -- what is known of the Child SAs that a step makes and asks for
 pub record ChildLaws : Type 0 where
@@ -581,10 +582,10 @@ module _ {C : Type 0} (turns : TurnLaws) (kin : ChildLaws) (meaning_of : C → M
         made_by (effect.Again next) said is = absurd is
         made_by (effect.AsksAuth next) said is = absurd is
         made_by (effect.Replied answered) said is =
-            let asked = asked_is made.ike makes.message.header.id false answered.child made (sym (ap (λ (x : Stepped). x.trace.child) said) ∙ named) in
+            let asked = asked_is made.ike makes.message.header.id false (serial_made answered.fate) made (sym (ap (λ (x : Stepped). x.trace.child) said) ∙ named) in
             subst (λ (b : Bool). WasMade b body_of plain_of stored_child last) (sym asked) (answered_for is.0 answered said (sym it.asked ∙ asked) is.1)
         made_by (effect.Counted ended) said is =
-            let asked = asked_is made.ike makes.message.header.id true ended.child made (sym (ap (λ (x : Stepped). x.trace.child) said) ∙ named) in
+            let asked = asked_is made.ike makes.message.header.id true (serial_made ended.fate) made (sym (ap (λ (x : Stepped). x.trace.child) said) ∙ named) in
             subst (λ (b : Bool). WasMade b body_of plain_of stored_child last) (sym asked) (elim is [
               | inl first ↦ ended_first (sym it.asked ∙ asked) first
               | inr further ↦ ended_further (sym it.asked ∙ asked) further

@@ -85,6 +85,7 @@ use Rattle.ike.specs.declared.output.IkeOutput.TheVariants as output
 use Rattle.ike.specs.declared.output.Mark as marks
 use Rattle.ike.specs.declared.output.Stepped.{Stepped}
 use Rattle.gateway.proofs.PartyLemmas.{none_some, some_is}
+use Rattle.association.specs.Outcomes.{closed_by, made_by}
 
 -- ---- the IKE SA at a place is that of its serial
 
@@ -537,7 +538,7 @@ module _ (meaning : Meaning) (setup : Setup) (cookies : CookieSecrets) (from oct
     | inr replied ↦ absurd (let no : output.Repeat reply ≡ output.Reply replied.1 replied.2 = sym (ap (λ (x : Stepped). x.output) is) ∙ replied.3 in cc)
   ]
   effect_serial own number (effect.Replied answered) is = elim told [
-    | inl counted ↦ absurd (counted_not (output.Reply answered.octets (closed_serial own answered.closed)) counted.0 counted.1 tt (sym (ap (λ (x : Stepped). x.output) is) ∙ counted.2))
+    | inl counted ↦ absurd (counted_not (output.Reply answered.octets (closed_serial own (closed_by answered.fate))) counted.0 counted.1 tt (sym (ap (λ (x : Stepped). x.output) is) ∙ counted.2))
     | inr replied ↦
         let same = some_is _ _ (sym (ap (λ (x : Stepped). x.trace.sent) is) ∙ replied.4) in
         ap (λ (x : marks.Mark). x.ike) same
@@ -548,7 +549,7 @@ module _ (meaning : Meaning) (setup : Setup) (cookies : CookieSecrets) (from oct
   ]
   effect_serial own number (effect.Counted ended) is = elim told [
     | inl counted ↦ (
-        let same : output.Counted own ended.child (closed_serial own ended.closed) ≡ output.Counted serial counted.0 counted.1 = sym (ap (λ (x : Stepped). x.output) is) ∙ counted.2 in
+        let same : output.Counted own (made_by ended.fate) (closed_serial own (closed_by ended.fate)) ≡ output.Counted serial counted.0 counted.1 = sym (ap (λ (x : Stepped). x.output) is) ∙ counted.2 in
         cc)
     | inr replied ↦ absurd (none_some _ (sym (ap (λ (x : Stepped). x.trace.sent) is) ∙ replied.4))
   ]

@@ -19,6 +19,7 @@ use Rattle.association.specs.Purposes.{spi_asked}
 use Rattle.association.specs.declared.phase.Request.{Request}
 use Rattle.setup.specs.Configs.{Setup}
 use Rattle.association.specs.declared.outcome.Ended.{Ended}
+use Rattle.association.specs.declared.outcome.Fate.TheVariants as fate
 use Rattle.moments.specs.Held.{IsInTime}
 use Rattle.effects.specs.Keeping.{IsShort}
 use Rattle.effects.specs.Lengths.{AreWholeKeys}
@@ -138,7 +139,7 @@ abbrev pub empty_plain : Plain
 empty_plain = record { first = 0; octets = [] }
 
 abbrev pub nothing_ended : Ended
-nothing_ended = record { child = None; closed = false; declined = None }
+nothing_ended = record { fate = fate.Stands; declined = None }
 
 counts : (setup : Setup) (table : Database) → DoesAnswer false setup asking_association table 2 empty_plain (effect.Counted nothing_ended) counted_association table
 counts setup table = record {
@@ -147,8 +148,7 @@ counts setup table = record {
   request = asked_request;
   outgoing = counted_association.outgoing;
   counted = record { there = asked_there_two; content = refl };
-  child = refl;
-  closed = refl;
+  fate = refl;
   declined = record { error = None; told = record { payloads = Some []; read = record { clear = tt; payloads = (refl, refl); octets = tt }; told = refl }; due = refl };
   concluded = (
     refl,

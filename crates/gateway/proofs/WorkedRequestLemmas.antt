@@ -27,6 +27,7 @@ use Rattle.association.specs.declared.phase.Association.{Association}
 use Rattle.association.specs.declared.phase.Request.{Request}
 use Rattle.setup.specs.Configs.{IsConfig, Setup}
 use Rattle.association.specs.declared.outcome.Answered.{Answered}
+use Rattle.association.specs.declared.outcome.Fate.TheVariants as fate
 use Rattle.setup.specs.declared.config.Config.{Config}
 use Rattle.moments.specs.Held.{IsInTime}
 use Rattle.effects.specs.Keeping.{IsShort}
@@ -273,7 +274,7 @@ can_be = record {
 -- ---- what the octets do
 
 abbrev pub reply_said : Answered
-reply_said = record { octets = worked_reply; child = None; closed = false }
+reply_said = record { octets = worked_reply; fate = fate.Stands }
 
 first_takes : (setup : Setup) (table : Database)
     → TakesMessage worked_meaning setup (worked_association first_taken) table worked_request asked (effect.Replied reply_said) (worked_association one_more_taken) table
@@ -290,8 +291,7 @@ first_takes setup table = record {
     ready = with_room 1;
     prepared = record { content = refl; room = omega arith };
     taken = taken;
-    child = refl;
-    closed = refl;
+    fate = refl;
     concluded = (
       refl,
       record {

@@ -53,6 +53,9 @@ use Rattle.ike.proofs.SerialLemmas.{grown_found, grown_stands, none_next, replac
 use Rattle.ike.proofs.TellingLemmas.{asking_says, asking_silent, closes_now, closes_one, effect_says, effect_silent, half_open_says, half_open_silent, request_silent, said_silent, sends_now, silent_tells, tick_says, ClosesNow, IsEffectOf, IsSilent, SendsNow, TickFacts}
 use Rattle.ike.proofs.TickLemmas.{found_at}
 use Rattle.ike.proofs.WayLemmas.{admitted, asked_one, datagram_way, further_one, probed, rested, started, took, AsksOne, StartsOne, Way}
+use Rattle.association.specs.Outcomes.{closed_by, made_by}
+use Rattle.association.specs.declared.outcome.Fate.{Fate}
+use Rattle.association.specs.declared.outcome.Fate.TheVariants as fate
 
 -- what is known of moves at one IKE SA
 pub record MoveLaws : Type 0 where
@@ -154,17 +157,22 @@ told_made : (input : InputView) (stepped : Stepped) (serial : ℕ) (keys : Optio
 told_made input stepped serial (Some keys) octets moves keyed said sent = ((keyed, moves), ((said, sent), tt))
 told_made input stepped serial None octets moves keyed said sent = tt
 
+closing_fate : (f : Fate) → closed_by f ≡ true → f ≡ fate.Closed
+closing_fate fate.Stands is = absurd cc
+closing_fate (fate.Made serial) is = absurd cc
+closing_fate fate.Closed is = refl
+
 told_effect : (input : InputView) (serial number : ℕ) (keys : Option KeyRecord) (e : Effect) → is_tick input ≡ false → AllByRecursion (Tells input (stepped_of serial number e) serial) (moves_of number keys e)
 told_effect input serial number keys (effect.Refused fault) moves = tt
 told_effect input serial number keys (effect.Repeated octets) moves = tt
 told_effect input serial number keys (effect.Again octets) moves = tt
 told_effect input serial number keys (effect.AsksAuth octets) moves = told_made input (stepped_of serial number (effect.AsksAuth octets)) serial keys octets moves refl refl refl
 told_effect input serial number keys (effect.Replied answered) moves =
-    told_ended input (stepped_of serial number (effect.Replied answered)) serial (TakeEffect number answered.octets) answered.closed (_, refl, refl)
-    (λ closed. subst (λ (b : Bool). Tells input (stepped_of serial number (effect.Replied (record answered { closed = b }))) serial Close) (sym closed) refl)
+    told_ended input (stepped_of serial number (effect.Replied answered)) serial (TakeEffect number answered.octets) (closed_by answered.fate) (_, refl, refl)
+    (λ closed. subst (λ (f : Fate). Tells input (stepped_of serial number (effect.Replied (record answered { fate = f }))) serial Close) (sym (closing_fate answered.fate closed)) refl)
 told_effect input serial number keys (effect.Counted ended) moves =
-    told_ended input (stepped_of serial number (effect.Counted ended)) serial (Count number) ended.closed (ended.child, _, refl)
-    (λ closed. subst (λ (b : Bool). Tells input (stepped_of serial number (effect.Counted (record ended { closed = b }))) serial Close) (sym closed) refl)
+    told_ended input (stepped_of serial number (effect.Counted ended)) serial (Count number) (closed_by ended.fate) (made_by ended.fate, _, refl)
+    (λ closed. subst (λ (f : Fate). Tells input (stepped_of serial number (effect.Counted (record ended { fate = f }))) serial Close) (sym (closing_fate ended.fate closed)) refl)
 
 -- ---- what comes, and what opens
 
@@ -190,10 +198,10 @@ came_effect laws meaning setup from octets old table new_table serial a b m (eff
     (subst (λ (o : Option Association). KeysCome (steps.Message from octets setup.fresh) o) (sym before)
     (record { message = m; spelled = spelled; response = initial.1; exchange_is = initial.0 }))
 came_effect laws meaning setup from octets old table new_table serial a b m (effect.Replied answered) spelled meant held before takes =
-    came_ended meaning (steps.Message from octets setup.fresh) old serial (TakeEffect m.header.id answered.octets) answered.closed
+    came_ended meaning (steps.Message from octets setup.fresh) old serial (TakeEffect m.header.id answered.octets) (closed_by answered.fate)
     (record { association = a; there = before; comes = laws.taken meaning setup a table octets m answered b new_table spelled meant takes })
 came_effect laws meaning setup from octets old table new_table serial a b m (effect.Counted ended) spelled meant held before takes =
-    came_ended meaning (steps.Message from octets setup.fresh) old serial (Count m.header.id) ended.closed
+    came_ended meaning (steps.Message from octets setup.fresh) old serial (Count m.header.id) (closed_by ended.fate)
     (record { association = a; there = before; comes = laws.counted meaning setup a table octets m ended b new_table spelled meant takes })
 
 opened_ended : (meaning : Meaning) (old new : Held) (serial : ℕ) (move : Move) (closed : Bool) → MoveOpens meaning old new serial move
@@ -220,10 +228,10 @@ opened_effect laws meaning setup octets old new table new_table serial a b m (ef
       opens = laws.identity meaning setup a table octets m next b new_table opens (laws.whole meaning setup a table octets m (effect.AsksAuth next) b new_table whole takes) takes;
     })
 opened_effect laws meaning setup octets old new table new_table serial a b m (effect.Replied answered) opens whole before after takes =
-    opened_ended meaning old new serial (TakeEffect m.header.id answered.octets) answered.closed
+    opened_ended meaning old new serial (TakeEffect m.header.id answered.octets) (closed_by answered.fate)
     (record { association = a; there = before; opens = laws.reply meaning setup a table octets m answered b new_table opens whole takes })
 opened_effect laws meaning setup octets old new table new_table serial a b m (effect.Counted ended) opens whole before after takes =
-    opened_ended meaning old new serial (Count m.header.id) ended.closed tt
+    opened_ended meaning old new serial (Count m.header.id) (closed_by ended.fate) tt
 
 -- ---- orders
 

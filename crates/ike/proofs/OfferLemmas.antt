@@ -42,6 +42,7 @@ use Rattle.ike.specs.declared.output.Stepped.{Stepped}
 use Rattle.ike.proofs.RequestLemmas.{found_first}
 use Rattle.ike.proofs.SerialLemmas.{sound_found}
 use Rattle.ike.proofs.WayLemmas.{datagram_came, joined, stood, taken, Came}
+use Rattle.association.specs.Outcomes.{closed_by, made_by}
 
 -- what is known of answers
 pub record AnswerLaws : Type 0 where
@@ -245,7 +246,7 @@ effect_notice ike number (effect.Repeated octets) reply now = repeat_reply octet
 effect_notice ike number (effect.Replied answered) reply now = some_none _ now.sent
 effect_notice ike number (effect.Again octets) reply now = let said : output.Request ike octets ≡ output.Reply reply now.closed = now.said in cc
 effect_notice ike number (effect.AsksAuth octets) reply now = let said : output.Request ike octets ≡ output.Reply reply now.closed = now.said in cc
-effect_notice ike number (effect.Counted ended) reply now = counted_reply ike ended.child (closed_serial ike ended.closed) reply now.closed now.said
+effect_notice ike number (effect.Counted ended) reply now = counted_reply ike (made_by ended.fate) (closed_serial ike (closed_by ended.fate)) reply now.closed now.said
 
 found_notice : (r : Result ℕ MessageFault) (meaning : Meaning) (setup : Setup) (octets : Octets) (m : Message) (old : Held) (table : Database) (stepped : Stepped) (new : Held) (new_table : Database) (reply : Octets)
     → TakesFound r meaning setup octets m old table stepped new new_table → AnswersOnly stepped reply → ⊥

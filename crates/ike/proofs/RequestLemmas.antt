@@ -59,6 +59,7 @@ use Rattle.ike.proofs.RepeatLemmas.{none_passes}
 use Rattle.ike.proofs.SerialLemmas.{grown_found, replaced_found, replaced_stands, same_one, sound_found}
 use Rattle.ike.proofs.TickLemmas.{found_at, on_concluded, on_half_open, ticked_stood, TicksHold}
 use Rattle.ike.proofs.WayLemmas.{admitted, asked_one, datagram_way, further_one, probed, rested, started, step_way, took, Takes, Way}
+use Rattle.association.specs.Outcomes.{closed_by}
 
 -- what is known of one message's effect on one IKE SA
 pub record Laws : Type 0 where
@@ -428,7 +429,7 @@ change_brings laws meaning setup octets stepped table a b number comes (took_it 
       };
       answered = record {
         reply = put.answered.octets;
-        closed = closed_serial a.serial put.answered.closed;
+        closed = closed_serial a.serial (closed_by put.answered.fate);
         said = ap (λ (s : Stepped). s.output) (t.said ∙ ap (stepped_of a.serial t.message.header.id) put.said);
         kept = put.kept;
       };

@@ -32,6 +32,7 @@ use Rattle.ike.specs.declared.output.Mark.{Mark}
 use Rattle.ike.specs.declared.output.Stepped.{Stepped}
 use Rattle.ike.proofs.SerialLemmas.{same_one, sound_found}
 use Rattle.ike.proofs.WayLemmas.{GoesOut}
+use Rattle.association.specs.Outcomes.{closed_by as fate_closed, made_by}
 
 -- ---- a step that says nothing of an IKE SA
 
@@ -135,8 +136,8 @@ effect_silent ike number (effect.Replied answered) serial apart =
       again = λ ticked is. cc;
       keyed = λ is. none_marked serial is;
       counted = λ child closed is. cc;
-      closed = λ told. other_closed ike serial answered.octets answered.closed apart told;
-      child = λ made named here. other_child ike number serial false answered.child made apart named here;
+      closed = λ told. other_closed ike serial answered.octets (fate_closed answered.fate) apart told;
+      child = λ made named here. other_child ike number serial false (made_by answered.fate) made apart named here;
     }
 effect_silent ike number (effect.Again octets) serial apart = request_silent ike octets serial
 effect_silent ike number (effect.AsksAuth octets) serial apart =
@@ -153,9 +154,9 @@ effect_silent ike number (effect.Counted ended) serial apart =
       sent = λ mark is here. none_marked mark is;
       again = λ ticked is. cc;
       keyed = λ is. none_marked serial is;
-      counted = λ child closed is. other_counted ike serial ended.child (closed_if ike ended.closed) child closed apart is;
-      closed = λ told. other_ended ike serial ended.child ended.closed apart told;
-      child = λ made named here. other_child ike number serial true ended.child made apart named here;
+      counted = λ child closed is. other_counted ike serial (made_by ended.fate) (closed_if ike (fate_closed ended.fate)) child closed apart is;
+      closed = λ told. other_ended ike serial (made_by ended.fate) (fate_closed ended.fate) apart told;
+      child = λ made named here. other_child ike number serial true (made_by ended.fate) made apart named here;
     }
 
 -- ---- what it says of the one that it is about
@@ -232,13 +233,13 @@ effect_says old serial number keys (effect.Repeated reply) is =
 effect_says old serial number keys (effect.Replied answered) is =
     let move = TakeEffect number answered.octets in
     record {
-      sent = λ mark octets sent here out. sent_by_mark (and_closes move answered.closed) (option_and_then ledger old) (output.Reply answered.octets (closed_if serial answered.closed)) serial number true answered.octets mark octets sent out (inr (refl, inl (first_of move answered.closed)));
+      sent = λ mark octets sent here out. sent_by_mark (and_closes move (fate_closed answered.fate)) (option_and_then ledger old) (output.Reply answered.octets (closed_if serial (fate_closed answered.fate))) serial number true answered.octets mark octets sent out (inr (refl, inl (first_of move (fate_closed answered.fate))));
       again = λ ticked r said there here sealed. cc;
       none_beside = λ told. absurd told;
       keyed = λ named. absurd (none_marked serial named);
       counted = λ child closed said. cc;
-      closed = λ told. inr (closed_said serial move answered.octets answered.closed told);
-      child = λ made named here. replied_child serial number answered.octets answered.closed answered.child made named;
+      closed = λ told. inr (closed_said serial move answered.octets (fate_closed answered.fate) told);
+      child = λ made named here. replied_child serial number answered.octets (fate_closed answered.fate) (made_by answered.fate) made named;
     }
 effect_says old serial number keys (effect.Again octets) is = silent_tells old (plain_step (output.Request serial octets)) serial [] (request_silent serial octets serial)
 effect_says old serial number keys (effect.AsksAuth next) is = let has = is.keyed next refl in identified_says old serial number next keys has.0 has.1
@@ -249,9 +250,9 @@ effect_says old serial number keys (effect.Counted ended) is =
       again = λ ticked r said there here sealed. cc;
       none_beside = λ told. absurd told;
       keyed = λ named. absurd (none_marked serial named);
-      counted = λ child closed said. (number, first_of move ended.closed);
-      closed = λ told. inr (ended_said serial move ended.child ended.closed told);
-      child = λ made named here. counted_child serial number ended.closed ended.child made named;
+      counted = λ child closed said. (number, first_of move (fate_closed ended.fate));
+      closed = λ told. inr (ended_said serial move (made_by ended.fate) (fate_closed ended.fate) told);
+      child = λ made named here. counted_child serial number (fate_closed ended.fate) (made_by ended.fate) made named;
     }
 
 pub asking_says : (old : Option Association) (serial number : ℕ) (octets : Octets) → SaysNoMore old (asking_step serial number octets) serial (Issue number octets ∷ [])

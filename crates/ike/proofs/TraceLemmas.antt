@@ -63,6 +63,7 @@ use Rattle.ike.proofs.AskingLemmas.{changed_itself, changed_phase, probed_serial
 use Rattle.ike.proofs.TickLemmas.{on_keys, ticked_stood, TicksHold}
 use Rattle.ike.proofs.SerialLemmas.{grown_found, grown_keys, keys_of, last_there, none_next, replaced_found, set_there, sound_found}
 use Rattle.ike.proofs.WayLemmas.{admitted, datagram_way, probed, rested, started, step_way, took, AdmitsOne, AsksOne, GoesOut, LeavesOrdered, LeavesReserved, PassesMoment, StartsOne, Takes, Way}
+use Rattle.association.specs.Outcomes.{made_by}
 
 -- what is known of requests that go out again
 abbrev pub TicksAgain : Type 0
@@ -287,13 +288,13 @@ traced_by ike number (effect.Refused f) =
 traced_by ike number (effect.Repeated octets) =
     record { octets = λ mark e. refl; sent = λ mark e. mark_named _ mark e; keyed = λ other e. absurd (none_out other e); child = λ made e. absurd (none_out made e) }
 traced_by ike number (effect.Replied answered) =
-    record { octets = λ mark e. refl; sent = λ mark e. mark_named _ mark e; keyed = λ other e. absurd (none_out other e); child = λ made e. child_named ike number false answered.child made e }
+    record { octets = λ mark e. refl; sent = λ mark e. mark_named _ mark e; keyed = λ other e. absurd (none_out other e); child = λ made e. child_named ike number false (made_by answered.fate) made e }
 traced_by ike number (effect.Again octets) =
     record { octets = λ mark e. absurd (none_out mark e); sent = λ mark e. absurd (none_out mark e); keyed = λ other e. absurd (none_out other e); child = λ made e. absurd (none_out made e) }
 traced_by ike number (effect.AsksAuth octets) =
     record { octets = λ mark e. refl; sent = λ mark e. mark_named _ mark e; keyed = λ other e. sym (same_out ike other e); child = λ made e. absurd (none_out made e) }
 traced_by ike number (effect.Counted ended) =
-    record { octets = λ mark e. absurd (none_out mark e); sent = λ mark e. absurd (none_out mark e); keyed = λ other e. absurd (none_out other e); child = λ made e. child_named ike number true ended.child made e }
+    record { octets = λ mark e. absurd (none_out mark e); sent = λ mark e. absurd (none_out mark e); keyed = λ other e. absurd (none_out other e); child = λ made e. child_named ike number true (made_by ended.fate) made e }
 
 -- an effect that the trace names asks for keys
 record NamesKeyed (ike number : ℕ) (e : Effect) (p : Phase) : Type 0 where

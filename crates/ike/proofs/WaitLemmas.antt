@@ -42,6 +42,7 @@ use Rattle.ike.proofs.MoveLemmas.{at_changed, at_grown}
 use Rattle.ike.proofs.AskingLemmas.{changed_itself, probed_serial}
 use Rattle.ike.proofs.SerialLemmas.{same_one}
 use Rattle.ike.proofs.WayLemmas.{admitted, asked_one, datagram_way, further_one, probed, rested, started, took, AdmitsOne, AsksOne, StartsOne, Takes, Way}
+use Rattle.association.specs.Outcomes.{made_by}
 
 -- what is known of one IKE SA
 pub record WaitLaws : Type 0 where
@@ -141,7 +142,7 @@ ends_said serial id (effect.Repeated reply) ends = absurd ends
 ends_said serial id (effect.Replied answered) ends = subst (λ (b : Bool). TellsClosed serial (output.Reply answered.octets (closed_serial serial b))) (sym ends) refl
 ends_said serial id (effect.Again next) ends = absurd ends
 ends_said serial id (effect.AsksAuth next) ends = absurd ends
-ends_said serial id (effect.Counted ended) ends = subst (λ (b : Bool). TellsClosed serial (output.Counted serial ended.child (closed_serial serial b))) (sym ends) refl
+ends_said serial id (effect.Counted ended) ends = subst (λ (b : Bool). TellsClosed serial (output.Counted serial (made_by ended.fate) (closed_serial serial b))) (sym ends) refl
 
 init_closed : (sent : InitSent) (keys : Option KeyRecord) (at : ℕ) → phase.InitSent sent ≡ phase.Closed keys at → ⊥
 init_closed sent keys at is = cc

@@ -12,6 +12,7 @@ use Rattle.ike.specs.declared.output.MadeChild.{MadeChild}
 use Rattle.ike.specs.declared.output.Mark.{Mark}
 use Rattle.ike.specs.declared.output.Stepped.{Stepped}
 use Rattle.ike.specs.declared.output.Trace.{Trace}
+use Rattle.association.specs.Outcomes.{closed_by, made_by}
 
 -- the octets that are sent, but for requests that a `Tick` retransmits
 abbrev pub octets_in : IkeOutput → Option Octets
@@ -55,8 +56,8 @@ stepped_of ike number (effect.Repeated octets) = record {
   trace = record { sent = reply_mark ike number; keyed = None; child = None; declined = None };
 }
 stepped_of ike number (effect.Replied answered) = record {
-  output = Reply answered.octets (closed_serial ike answered.closed);
-  trace = record { sent = reply_mark ike number; keyed = None; child = child_of ike number false answered.child; declined = None };
+  output = Reply answered.octets (closed_serial ike (closed_by answered.fate));
+  trace = record { sent = reply_mark ike number; keyed = None; child = child_of ike number false (made_by answered.fate); declined = None };
 }
 stepped_of ike number (effect.Again octets) = plain_step (Request ike octets)
 stepped_of ike number (effect.AsksAuth octets) = record {
@@ -64,8 +65,8 @@ stepped_of ike number (effect.AsksAuth octets) = record {
   trace = record { sent = request_mark ike 1; keyed = Some ike; child = None; declined = None };
 }
 stepped_of ike number (effect.Counted ended) = record {
-  output = Counted ike ended.child (closed_serial ike ended.closed);
-  trace = record { sent = None; keyed = None; child = child_of ike number true ended.child; declined = ended.declined };
+  output = Counted ike (made_by ended.fate) (closed_serial ike (closed_by ended.fate));
+  trace = record { sent = None; keyed = None; child = child_of ike number true (made_by ended.fate); declined = ended.declined };
 }
 
 -- a request under keys is sent for the first time

@@ -131,7 +131,7 @@ impl Stepped {
             Effect::Replied(answered) => Stepped {
                 output: IkeOutput::Reply {
                     octets: answered.octets,
-                    closed: closed_serial(ike, answered.closed),
+                    closed: closed_serial(ike, answered.fate.is_closed()),
                 },
                 trace: Trace {
                     sent: Some(Mark {
@@ -139,7 +139,7 @@ impl Stepped {
                         response: true,
                         number,
                     }),
-                    child: child_of(ike, number, false, answered.child),
+                    child: child_of(ike, number, false, answered.fate.child()),
                     ..Trace::NONE
                 },
             },
@@ -159,11 +159,11 @@ impl Stepped {
             Effect::Counted(ended) => Stepped {
                 output: IkeOutput::Counted {
                     ike,
-                    child: ended.child,
-                    closed: closed_serial(ike, ended.closed),
+                    child: ended.fate.child(),
+                    closed: closed_serial(ike, ended.fate.is_closed()),
                 },
                 trace: Trace {
-                    child: child_of(ike, number, true, ended.child),
+                    child: child_of(ike, number, true, ended.fate.child()),
                     declined: ended.declined,
                     ..Trace::NONE
                 },

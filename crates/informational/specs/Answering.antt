@@ -18,6 +18,7 @@ use Rattle.association.specs.Sending.{reply_message}
 use Rattle.association.specs.Issuing.{with_incoming}
 use Rattle.setup.specs.Configs.{Setup}
 use Rattle.exchange.specs.Chains.{IsRead}
+use Rattle.association.specs.Outcomes.{childless}
 use Rattle.association.specs.declared.outcome.Answered.{Answered}
 use Rattle.deletions.specs.Answering.{payloads_of_verdict}
 use Rattle.deletions.specs.Deciding.{is_closing_verdict, verdict_on}
@@ -44,8 +45,7 @@ pub record AnswersInformational (body_of : Keys → Octets → Octets → Octets
   pub ready : PeerRequests
   pub prepared : HasSameRequests old.incoming ready
   pub taken : TakesRequest ready number answer.octets incoming
-  pub child : answer.child ≡ None
-  pub closed : answer.closed ≡ is_closing_verdict (verdict_on table.pairs old.serial payloads)
+  pub fate : answer.fate ≡ childless (is_closing_verdict (verdict_on table.pairs old.serial payloads))
   pub concluded : ClosesIf (is_closing_verdict (verdict_on table.pairs old.serial payloads)) (gone_by (verdict_on table.pairs old.serial payloads)) (with_incoming old incoming) table setup.moment new new_table
 
 -- The request is processed at an established IKE SA. Elsewhere nothing is done.

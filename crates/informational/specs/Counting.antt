@@ -7,7 +7,7 @@ use Rattle.exchange.specs.declared.sealed.Plain.{Plain}
 use Rattle.requests.specs.Outgoing.{CountsAnswer, OwnRequests}
 use Rattle.sadb.specs.Database.{pair_at, Database, PairMap}
 use Rattle.sadb.specs.declared.pair.Pair.{Pair}
-use Rattle.association.specs.Outcomes.{IsDeclinedBy}
+use Rattle.association.specs.Outcomes.{childless, IsDeclinedBy}
 use Rattle.association.specs.Purposes.{asks_to_end}
 use Rattle.association.specs.Phases.{IsEstablished}
 use Rattle.association.specs.declared.phase.Association.{Association}
@@ -58,9 +58,8 @@ pub record CountsInformational (setup : Setup) (old : Association) (table : Data
   pub request : Request
   pub outgoing : OwnRequests Request
   pub counted : CountsAnswer old.outgoing number request outgoing
-  pub child : ended.child ≡ None
-  pub closed : ended.closed ≡ is_ended payloads request.purpose
-  pub declined : IsDeclinedBy plain ended.child ended.declined
+  pub fate : ended.fate ≡ childless (is_ended payloads request.purpose)
+  pub declined : IsDeclinedBy plain ended.fate ended.declined
   pub concluded : ClosesIf (is_ended payloads request.purpose) (gone_with table.pairs old.serial request.purpose) (with_outgoing old outgoing) table setup.moment new new_table
 
 -- It is matched at an established IKE SA; else nothing is done.

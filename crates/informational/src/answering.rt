@@ -13,7 +13,7 @@ ghost use Rattle.informational.specs.Answering.{gone_by, AnswersWhereEstablished
 ghost use Rattle.informational.specs.Orders.{ClosesIf};
 
 use association::laws::spis_stay_held;
-use association::{Answered, Association, Phase};
+use association::{Answered, Association, Fate, Phase};
 use base::Items;
 use deletions::laws::what_is_decided_can_be_removed;
 use deletions::{Verdict, answer_payloads, decide, remove_named};
@@ -66,8 +66,7 @@ pub fn answer<C: Sealer>(
     conclude(association, table, &verdict, setup.moment);
     Ok(Some(Answered {
         octets,
-        child: None,
-        closed,
+        fate: Fate::childless(closed),
     }))
 }
 

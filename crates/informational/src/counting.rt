@@ -8,7 +8,7 @@ ghost use Rattle.setup.specs.Configs.{setup_of};
 ghost use Rattle.association.specs.Purposes.{AsksForNoFurtherChild};
 
 use association::laws::spis_stay_held;
-use association::{Association, Ended, Phase, Purpose};
+use association::{Association, Ended, Fate, Phase, Purpose};
 use deletions::remove_named;
 use exchange::{Plain, first_error, has_invalid_syntax, read_chain};
 use sadb::Table;
@@ -50,8 +50,7 @@ pub fn count<C>(
     let closed = rejected || request.purpose.asks_to_end();
     conclude(association, table, closed, &request.purpose, setup.moment);
     Ok(Some(Ended {
-        child: None,
-        closed,
+        fate: Fate::childless(closed),
         declined: error,
     }))
 }

@@ -25,7 +25,7 @@ use Rattle.exchange.specs.declared.child.ChildAnswer.{ChildAnswer}
 use Rattle.exchange.specs.declared.child.ChildAnswer.TheVariants as answered
 use Rattle.children.specs.declared.responding.Response.{Response}
 use Rattle.children.specs.declared.responding.Response.TheVariants as response
-use Rattle.initial.specs.Concluding.{is_closing, ConcludesBy}
+use Rattle.initial.specs.Concluding.{ConcludesBy}
 use Rattle.association.specs.Issuing.{with_incoming}
 use Rattle.setup.specs.Configs.{Setup}
 use Rattle.initial.specs.Deciding.{own_proving, Decides}
@@ -84,8 +84,7 @@ pub record AnswersAuth (prover : Prover) (setup : Setup) (old : Association) (ta
   pub taken : TakesRequest ready number answer.octets incoming
   pub between : Database
   pub room : IsAsBefore table between
-  pub closed : answer.closed ≡ is_closing (outcome_of decision)
-  pub concluded : ConcludesBy setup (with_incoming old incoming) between (outcome_of decision) answer.child new new_table
+  pub concluded : ConcludesBy setup (with_incoming old incoming) between (outcome_of decision) answer.fate new new_table
 
 -- this end waits for IKE_AUTH
 pub record IsHalfOpen (p : Phase) : Type 0 where

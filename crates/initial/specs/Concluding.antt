@@ -6,6 +6,9 @@ use Rattle.sadb.specs.Database.{Database, Installs, IsReserved, Releases}
 use Rattle.sadb.specs.declared.pair.Pair.{Pair}
 use Rattle.association.specs.Closing.{Closes, HoldsReserved}
 use Rattle.association.specs.Phases.{established_of, established_spi}
+use Rattle.association.specs.Outcomes.{closed_by, made_by}
+use Rattle.association.specs.declared.outcome.Fate.{Fate}
+use Rattle.association.specs.declared.outcome.Fate.TheVariants as fate
 use Rattle.association.specs.declared.phase.Association.{Association}
 use Rattle.association.specs.declared.phase.Request.{Request}
 use Rattle.auth.specs.Windows.{IsWindow}
@@ -37,17 +40,18 @@ widened own peers a = record a { incoming = widened_incoming own a.incoming; out
 abbrev pub established : Association → Association
 established a = record a { phase = established_of a.phase }
 
-pub record ClosesBy (setup : Setup) (old : Association) (table : Database) (child : Option ℕ) (new : Association) (new_table : Database) : Type 0 where
-  pub none : child ≡ None
+pub record ClosesBy (setup : Setup) (old : Association) (table : Database) (came : Fate) (new : Association) (new_table : Database) : Type 0 where
+  pub closed : came ≡ fate.Closed
   pub over : Closes old table setup.moment new new_table
 
-pub record EstablishesBy (setup : Setup) (old : Association) (table : Database) (pair : Option Pair) (window : ℕ) (child : Option ℕ) (new : Association) (new_table : Database) : Type 0 where
-  pub added : AddsChild table (established_spi old.phase) pair child new_table
+pub record EstablishesBy (setup : Setup) (old : Association) (table : Database) (pair : Option Pair) (window : ℕ) (came : Fate) (new : Association) (new_table : Database) : Type 0 where
+  pub stands : closed_by came ≡ false
+  pub added : AddsChild table (established_spi old.phase) pair (made_by came) new_table
   pub content : new ≡ widened setup.config.window window (established old)
 
-abbrev pub ConcludesBy : Setup → Association → Database → Outcome → Option ℕ → Association → Database → Type 0
-ConcludesBy setup old table outcome.Closes child new new_table = ClosesBy setup old table child new new_table
-ConcludesBy setup old table (outcome.Establishes pair window) child new new_table = EstablishesBy setup old table pair window child new new_table
+abbrev pub ConcludesBy : Setup → Association → Database → Outcome → Fate → Association → Database → Type 0
+ConcludesBy setup old table outcome.Closes came new new_table = ClosesBy setup old table came new new_table
+ConcludesBy setup old table (outcome.Establishes pair window) came new new_table = EstablishesBy setup old table pair window came new new_table
 
 abbrev pub is_closing : Outcome → Bool
 is_closing outcome.Closes = true

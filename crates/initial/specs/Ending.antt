@@ -19,7 +19,7 @@ use Rattle.auth.specs.Answers.{is_accepted}
 use Rattle.auth.specs.Proofs.{proving_of, Accepts, ProvingView}
 use Rattle.auth.specs.Windows.{peer_window, IsWindow}
 use Rattle.children.specs.Accepting.{IsAcceptedChild, IsUnacceptable}
-use Rattle.initial.specs.Concluding.{is_closing, ConcludesBy}
+use Rattle.initial.specs.Concluding.{ConcludesBy}
 use Rattle.association.specs.Issuing.{with_outgoing}
 use Rattle.setup.specs.Configs.{first_setting, Setup}
 use Rattle.exchange.specs.Chains.{IsRead}
@@ -63,9 +63,8 @@ pub record EndsAuth (accepts : Accepts) (setup : Setup) (old : Association) (tab
   pub request : Request
   pub outgoing : OwnRequests Request
   pub counted : CountsAnswer old.outgoing number request outgoing
-  pub closed : ended.closed ≡ is_closing verdict
-  pub declined : IsDeclinedBy plain ended.child ended.declined
-  pub concluded : ConcludesBy setup (with_outgoing old outgoing) table verdict ended.child new new_table
+  pub declined : IsDeclinedBy plain ended.fate ended.declined
+  pub concluded : ConcludesBy setup (with_outgoing old outgoing) table verdict ended.fate new new_table
 
 -- this end waits for the response to IKE_AUTH
 pub record IsAuthSent (p : Phase) : Type 0 where

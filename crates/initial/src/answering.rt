@@ -10,7 +10,6 @@ ghost use Rattle.auth.specs.Answers.{auth_answer};
 ghost use Rattle.exchange.specs.Children.{answering_payloads};
 ghost use Rattle.initial.specs.Answering.{child_answer, outcome_of, pair_of, prover_by, reply_payloads, AnswersWhereHalfOpen};
 ghost use Rattle.association.specs.Sending.{reply_message};
-ghost use Rattle.initial.specs.Concluding.{is_closing};
 ghost use Rattle.children.specs.Faults.{CanBeWanted};
 ghost use Rattle.setup.specs.Configs.{setup_of};
 ghost use Rattle.initial.specs.Deciding.{own_proving, FitsDecision, FitsResponse};
@@ -74,12 +73,10 @@ pub fn answer_auth<C: Sealer + Proof>(
     association.incoming.prepare()?;
     // From here on nothing can be refused.
     association.incoming.take(number, kept);
-    let closed = reply.outcome.is_closing();
-    let child = conclude(setup, association, table, reply.outcome);
+    let fate = conclude(setup, association, table, reply.outcome);
     Ok(Some(Answered {
         octets: reply.octets,
-        child,
-        closed,
+        fate,
     }))
 }
 

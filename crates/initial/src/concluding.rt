@@ -1,11 +1,12 @@
 //! What becomes of an IKE SA when IKE_AUTH is done.
-ghost use Rattle.std.specs.Prelude.{◌≡◌, Option, Some, None};
+ghost use Rattle.std.specs.Prelude.{◌≡◌, false, Option, Some, None};
 ghost use Rattle.auth.specs.Windows.{IsWindow};
+ghost use Rattle.association.specs.Outcomes.{closed_by, made_by};
 ghost use Rattle.association.specs.Phases.{established_spi};
-ghost use Rattle.initial.specs.Concluding.{established, is_closing, widened, AddsChild, CanAdd, CanConclude, ConcludesBy, EstablishesBy};
+ghost use Rattle.initial.specs.Concluding.{established, widened, AddsChild, CanAdd, CanConclude, ConcludesBy, EstablishesBy};
 ghost use Rattle.setup.specs.Configs.{setup_of};
 
-use association::Association;
+use association::{Association, Fate};
 use children::install;
 use sadb::{Pair, Spi, Table};
 use setup::Setup;
@@ -24,18 +25,6 @@ pub enum Outcome {
     },
 }
 
-impl Outcome {
-    /// Whether the IKE SA is over.
-    pub fn is_closing(&self) -> bool
-        ensures { result ≡ is_closing self.now }
-    {
-        match self {
-            Outcome::Closes => true,
-            Outcome::Establishes { .. } => false,
-        }
-    }
-}
-
 /// Brings an IKE SA and the table to an outcome. The serial of the Child SA is answered, if there is one.
 /// Takes no memory.
 pub fn conclude<C>(
@@ -43,7 +32,7 @@ pub fn conclude<C>(
     association: &mut Association,
     table: &mut Table,
     outcome: Outcome,
-) -> Option<u32>
+) -> Fate
     requires ready { CanConclude association.old table.old outcome }
     ensures { ConcludesBy
         (setup_of setup.now) association.old table.old outcome result association.new table.new }
@@ -51,7 +40,7 @@ pub fn conclude<C>(
     match outcome {
         Outcome::Closes => {
             association.close(table, setup.moment);
-            None
+            Fate::Closed
         }
         Outcome::Establishes { pair, window } => establish(
             association,
@@ -70,11 +59,12 @@ fn establish(
     pair: Option<Pair>,
     own: u8,
     peers: u8,
-) -> Option<u32>
+) -> Fate
     requires own { IsWindow own }
     requires peers { IsWindow peers }
     requires ready { CanAdd table.old (established_spi association.old.phase) pair }
-    ensures added { AddsChild table.old (established_spi association.old.phase) pair result table.new }
+    ensures stands { closed_by result ≡ false }
+    ensures added { AddsChild table.old (established_spi association.old.phase) pair (made_by result) table.new }
     ensures content { association.new ≡ widened own peers (established association.old) }
 {
     let spi = association.establish();
@@ -97,17 +87,18 @@ fn widen(association: &mut Association, own: u8, peers: u8)
 
 // A Child SA takes the SPI that was reserved for it, which is given up where there is none; or the next one,
 // where none was.
-fn add(table: &mut Table, spi: Option<Spi>, pair: Option<Pair>) -> Option<u32>
+fn add(table: &mut Table, spi: Option<Spi>, pair: Option<Pair>) -> Fate
     requires { CanAdd table.old spi pair }
-    ensures { AddsChild table.old spi pair result table.new }
+    ensures stands { closed_by result ≡ false }
+    ensures added { AddsChild table.old spi pair (made_by result) table.new }
 {
     match (spi, pair) {
-        (Some(spi), Some(pair)) => Some(table.install(spi, pair)),
+        (Some(spi), Some(pair)) => Fate::Made(table.install(spi, pair)),
         (Some(spi), None) => {
             table.release(spi);
-            None
+            Fate::Stands
         }
-        (None, Some(pair)) => Some(install(table, pair)),
-        (None, None) => None,
+        (None, Some(pair)) => Fate::Made(install(table, pair)),
+        (None, None) => Fate::Stands,
     }
 }

@@ -5,7 +5,7 @@ ghost use Rattle.association.specs.Closing.{HoldsReserved};
 ghost use Rattle.children.specs.declared.fault.MemoryFault.TheVariants as child;
 ghost use Rattle.exchange.specs.Chains.{TellsError};
 ghost use Rattle.setup.specs.Configs.{setup_of};
-ghost use Rattle.initial.specs.Concluding.{is_closing, CanConclude};
+ghost use Rattle.initial.specs.Concluding.{CanConclude};
 ghost use Rattle.initial.specs.Ending.{EndsWhereSent, FitsVerdict, IsVerdict, Judges};
 ghost use Rattle.association.specs.Purposes.{AsksForNoFurtherChild};
 
@@ -59,14 +59,9 @@ pub fn end_auth<C: Proof>(
     let Judged { verdict, error } = judged;
     // From here on nothing can be refused.
     let _ = association.outgoing.count(number);
-    let closed = verdict.is_closing();
-    let child = conclude(setup, association, table, verdict);
-    let declined = unless_made(child, error);
-    Ok(Some(Ended {
-        child,
-        closed,
-        declined,
-    }))
+    let fate = conclude(setup, association, table, verdict);
+    let declined = unless_made(fate, error);
+    Ok(Some(Ended { fate, declined }))
 }
 
 // How the response ends IKE_AUTH, and the error that it tells.

@@ -36,6 +36,7 @@ use Rattle.deliveries.specs.Worked.{any_traffic}
 use Rattle.setup.specs.Configs.{first_setting, Setup}
 use Rattle.initial.specs.Deciding.{AcceptsAuth}
 use Rattle.association.specs.declared.outcome.Answered.{Answered}
+use Rattle.association.specs.declared.outcome.Fate.TheVariants as fate
 use Rattle.initial.specs.declared.deciding.Decision.TheVariants as decision
 use Rattle.moments.specs.Held.{IsInTime}
 use Rattle.effects.specs.Taking.{TakesMessage}
@@ -249,7 +250,7 @@ adds = record {
 }
 
 abbrev reply_said : Answered
-reply_said = record { octets = response_octets; child = Some 1; closed = false }
+reply_said = record { octets = response_octets; fate = fate.Made 1 }
 
 request_takes : TakesMessage run_meaning setup opened before_table auth_octets asked (effect.Replied reply_said) (answering response_octets) answering_table
 request_takes = record {
@@ -267,8 +268,7 @@ request_takes = record {
     taken = taken response_octets;
     between = with_place;
     room = record { content = refl; room = omega arith };
-    closed = refl;
-    concluded = record { added = adds; content = refl };
+    concluded = record { stands = refl; added = adds; content = refl };
   };
 }
 

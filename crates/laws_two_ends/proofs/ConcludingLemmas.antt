@@ -28,6 +28,7 @@ use Rattle.setup.specs.Configs.{first_setting, Setup}
 use Rattle.initial.specs.Ending.{ProvesPeer}
 use Rattle.initial.specs.declared.concluding.Outcome.TheVariants as outcome
 use Rattle.association.specs.declared.outcome.Ended.{Ended}
+use Rattle.association.specs.declared.outcome.Fate.TheVariants as fate
 use Rattle.moments.specs.Held.{IsInTime}
 use Rattle.effects.specs.Taking.{TakesMessage}
 use Rattle.effects.specs.declared.taking.Effect.TheVariants as effect
@@ -132,7 +133,7 @@ request_there : map.get telling.outgoing.outstanding 1 ≡ Some second_request
 request_there = put_there map.empty 1 1 second_request refl
 
 abbrev child_made : Ended
-child_made = record { child = Some 1; closed = false; declined = None }
+child_made = record { fate = fate.Made 1; declined = None }
 
 response_takes : TakesMessage run_meaning setup telling before_table response_octets answered (effect.Counted child_made) asking (asking_table 0)
 response_takes = record {
@@ -146,9 +147,8 @@ response_takes = record {
     request = second_request;
     outgoing = two_answered;
     counted = record { there = request_there; content = refl };
-    closed = refl;
     declined = record { error = error_of (Some response_payloads); told = record { payloads = Some response_payloads; read = response_read; told = refl }; due = refl };
-    concluded = record { added = installs; content = refl };
+    concluded = record { stands = refl; added = installs; content = refl };
   };
 }
 

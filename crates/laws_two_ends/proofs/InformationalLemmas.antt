@@ -28,6 +28,7 @@ use Rattle.association.specs.Issuing.{with_incoming, with_outgoing}
 use Rattle.setup.specs.Configs.{Setup}
 use Rattle.association.specs.declared.outcome.Answered.{Answered}
 use Rattle.association.specs.declared.outcome.Ended.{Ended}
+use Rattle.association.specs.declared.outcome.Fate.TheVariants as fate
 use Rattle.informational.specs.Answering.{AnswersInformational}
 use Rattle.informational.specs.Orders.{ClosesIf}
 use Rattle.effects.specs.Openings.{OpensAsMessage}
@@ -38,10 +39,10 @@ abbrev pub empty_plain : Plain
 empty_plain = record { first = 0; octets = [] }
 
 abbrev pub reply_by : Octets → Answered
-reply_by octets = record { octets = octets; child = None; closed = false }
+reply_by octets = record { octets = octets; fate = fate.Stands }
 
 abbrev pub nothing_ended : Ended
-nothing_ended = record { child = None; closed = false; declined = None }
+nothing_ended = record { fate = fate.Stands; declined = None }
 
 -- the message of the end of this role
 abbrev pub bare_message : Role → Bool → ℕ → Message
@@ -95,8 +96,7 @@ module _ (setup : Setup) (a : Association) (table : Database) (number : ℕ) whe
     ready = a.incoming;
     prepared = record { content = refl; room = omega arith };
     taken = taken;
-    child = refl;
-    closed = refl;
+    fate = refl;
     concluded = none_goes (with_incoming a incoming);
   }
 
@@ -121,8 +121,7 @@ module _ (setup : Setup) (a : Association) (table : Database) (number : ℕ) whe
           request = probe;
           outgoing = counted.outgoing;
           counted = record { there = there; content = refl };
-          child = refl;
-          closed = refl;
+          fate = refl;
           declined = record { error = None; told = record { payloads = Some []; read = record { clear = tt; payloads = (refl, refl); octets = tt }; told = refl }; due = refl };
           concluded = none_goes counted;
         })

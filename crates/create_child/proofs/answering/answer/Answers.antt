@@ -40,7 +40,6 @@ returns-clause-answered g c =
       taken = subst (λ reply. TakesRequest c.prepare.new.self c.args.number reply c.take.new.self) (c.in_ok-kept.ensures ∙ c.as_slice.ensures) c.take.ensures;
       between = c.decide.new.table;
       room = c.decide.ensures.table;
-      closed = c.is_closing-closed.ensures;
-      concluded = subst (λ (b : Bool). ConcludesFurther b (further_pair decision) (with_incoming a c.take.new.self) c.decide.new.table moment c.conclude-child.result c.conclude-child.new.association c.conclude-child.new.table) c.is_closing-closed.ensures
-          (subst (λ (p : Option Pair). ConcludesFurther c.is_closing-closed.result p (with_incoming a c.take.new.self) c.decide.new.table moment c.conclude-child.result c.conclude-child.new.association c.conclude-child.new.table) c.into_parts-answer.ensures.pair c.conclude-child.ensures);
+      concluded = subst (λ (b : Bool). ConcludesFurther b (further_pair decision) (with_incoming a c.take.new.self) c.decide.new.table moment c.conclude-fate.result c.conclude-fate.new.association c.conclude-fate.new.table) c.is_closing-closed.ensures
+          (subst (λ (p : Option Pair). ConcludesFurther c.is_closing-closed.result p (with_incoming a c.take.new.self) c.decide.new.table moment c.conclude-fate.result c.conclude-fate.new.association c.conclude-fate.new.table) c.into_parts-answer.ensures.pair c.conclude-fate.ensures);
     }

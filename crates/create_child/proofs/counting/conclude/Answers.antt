@@ -1,5 +1,6 @@
-use Rattle.std.proofs.Common.{ℕ, None, refl, subst, sym}
+use Rattle.std.proofs.Common.{ℕ, refl, subst, sym}
 use Rattle.association.specs.Closing.{HoldsSpi}
+use Rattle.association.specs.declared.outcome.Fate.TheVariants as fate
 use Rattle.association.specs.declared.phase.Association.{Association}
 use Rattle.further.specs.declared.concluding.Conclusion.{Conclusion}
 use Rattle.create_child.specs.Counting.{EndsFurther}
@@ -15,5 +16,5 @@ close-requires c =
 
 pub returns-in-Closes : goal.returns-in-Closes
 returns-in-Closes c =
-    subst (λ (k : Conclusion). EndsFurther k c.args.spi c.args.association.now c.args.table.now c.args.moment None c.close.new.self c.close.new.table) (sym c.in-Closes.is)
-    (record { none = refl; between = c.release.new.self; released = c.release.ensures; over = c.close.ensures })
+    subst (λ (k : Conclusion). EndsFurther k c.args.spi c.args.association.now c.args.table.now c.args.moment fate.Closed c.close.new.self c.close.new.table) (sym c.in-Closes.is)
+    (record { closed = refl; between = c.release.new.self; released = c.release.ensures; over = c.close.ensures })

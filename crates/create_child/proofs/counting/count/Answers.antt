@@ -10,12 +10,12 @@ use Rattle.create_child.specs.Counting.{ConcludesAt, ConcludesWhereAwaited, Ends
 use Rattle.create_child.proofs.CountingLemmas.{given_back, same_request, same_spi}
 use Rattle.create_child.proofs.counting.count.Goals as goal
 
-pub conclude-child-requires-clause-held : goal.conclude-child-requires-clause-held
-conclude-child-requires-clause-held g c =
+pub conclude-fate-requires-clause-held : goal.conclude-fate-requires-clause-held
+conclude-fate-requires-clause-held g c =
     c.spis_stay_held.ensures.counting c.args.association.now c.args.table.now c.args.number c.count-request.result c.count-request.new.self c.count-request.ensures c.requires.reserved
 
-pub conclude-child-requires-clause-apart : goal.conclude-child-requires-clause-apart
-conclude-child-requires-clause-apart g c =
+pub conclude-fate-requires-clause-apart : goal.conclude-fate-requires-clause-apart
+conclude-fate-requires-clause-apart g c =
     given_back c.args.association.now c.args.table.now c.args.number c.count-request.result c.count-request.new.self c.unwrap-spi.result c.children_are_asked_for.ensures.counting c.requires.reserved c.count-request.ensures
     (sym c.into_spi.ensures ∙ c.unwrap-spi.ensures)
 
@@ -37,8 +37,7 @@ returns-clause-counted g c =
       counted = c.count-request.ensures;
       conclusion = c.in-Some.concluded.conclusion;
       concluded = told.due;
-      closed = c.is_closing-closed.ensures;
       declined = record { error = c.in-Some.concluded.error; told = told.told; due = c.unless_made-declined.ensures };
-      ends = subst (λ (s : ℕ). EndsFurther c.in-Some.concluded.conclusion s (with_outgoing a c.count-request.new.self) c.args.table.now c.args.setup.now.moment c.conclude-child.result c.conclude-child.new.association c.conclude-child.new.table)
-          spi c.conclude-child.ensures;
+      ends = subst (λ (s : ℕ). EndsFurther c.in-Some.concluded.conclusion s (with_outgoing a c.count-request.new.self) c.args.table.now c.args.setup.now.moment c.conclude-fate.result c.conclude-fate.new.association c.conclude-fate.new.table)
+          spi c.conclude-fate.ensures;
     }

@@ -1,9 +1,10 @@
-use Rattle.std.proofs.Common.{ap, refl, subst, ◌∙◌}
+use Rattle.std.proofs.Common.{ap, subst, ◌∙◌}
 use Rattle.wire.specs.Numbers.{INFORMATIONAL}
 use Rattle.exchange.specs.Headers.{keys_of}
 use Rattle.exchange.specs.Sealed.{IsSealed}
 use Rattle.requests.specs.Incoming.{TakesRequest}
 use Rattle.sadb.specs.Database.{Database}
+use Rattle.association.specs.Outcomes.{childless}
 use Rattle.association.specs.declared.phase.Association.{Association}
 use Rattle.association.specs.Sending.{reply_message}
 use Rattle.association.specs.Issuing.{with_incoming}
@@ -30,7 +31,6 @@ returns-clause-answered g c =
       ready = c.prepare.new.self;
       prepared = c.prepare.ensures.content;
       taken = subst (λ reply. TakesRequest c.prepare.new.self c.args.number reply c.take.new.self) (c.in_ok-kept.ensures ∙ c.as_slice.ensures) c.take.ensures;
-      child = refl;
-      closed = c.is_closing-closed.ensures ∙ ap is_closing_verdict verdict.due;
+      fate = c.childless.ensures ∙ ap childless (c.is_closing-closed.ensures ∙ ap is_closing_verdict verdict.due);
       concluded = subst (λ (v : Verdict). ClosesIf (is_closing_verdict v) (gone_by v) (with_incoming a c.take.new.self) table c.args.setup.now.moment c.conclude.new.association c.conclude.new.table) verdict.due c.conclude.ensures;
     }

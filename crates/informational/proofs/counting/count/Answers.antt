@@ -1,10 +1,17 @@
-use Rattle.std.proofs.Common.{◌≡◌, ◌||◌, ap, refl, subst, sym, ◌∙◌}
+use Rattle.std.proofs.Common.{◌≡◌, ◌||◌, ℕ, Bool, Option, true, false, ap, refl, subst, sym, ◌∙◌}
+use Rattle.association.specs.Outcomes.{childless, unless_made}
 use Rattle.association.specs.Purposes.{asks_to_end}
+use Rattle.association.specs.declared.outcome.Fate.{Fate}
 use Rattle.association.specs.Issuing.{with_outgoing}
 use Rattle.informational.specs.Counting.{gone_with, is_ended}
 use Rattle.informational.specs.Orders.{ClosesIf}
 use Rattle.informational.proofs.counting.count.Goals.{then-rejected, else-rejected}
 use Rattle.informational.proofs.counting.count.Goals as goal
+
+-- without a Child SA each error declines
+unless_childless : (closed : Bool) (error : Option ℕ) → unless_made (childless closed) error ≡ error
+unless_childless true error = refl
+unless_childless false error = refl
 
 pub returns-clause-counted : goal.returns-clause-counted
 returns-clause-counted g c =
@@ -22,9 +29,12 @@ returns-clause-counted g c =
         request = c.count-request.result;
         outgoing = c.count-request.new.self;
         counted = c.count-request.ensures;
-        child = refl;
-        closed = closed;
-        declined = record { error = c.in_ok-told.told.error; told = record { payloads = told.payloads; read = told.read; told = told.error_is }; due = refl };
+        fate = c.childless.ensures ∙ ap childless closed;
+        declined = record {
+          error = c.in_ok-told.told.error;
+          told = record { payloads = told.payloads; read = told.read; told = told.error_is };
+          due = sym (ap (λ (f : Fate). unless_made f c.in_ok-told.told.error) c.childless.ensures ∙ unless_childless c.if-rejected.closed c.in_ok-told.told.error);
+        };
         concluded = subst (λ b. ClosesIf b (gone_with c.args.table.now.pairs c.args.association.now.serial asked) a c.args.table.now c.args.setup.now.moment c.conclude.new.association c.conclude.new.table)
             closed c.conclude.ensures;
       },

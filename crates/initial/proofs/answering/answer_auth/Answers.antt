@@ -1,6 +1,6 @@
-use Rattle.std.proofs.Common.{subst, ap, ◌∙◌}
+use Rattle.std.proofs.Common.{subst, ◌∙◌}
 use Rattle.requests.specs.Incoming.{TakesRequest}
-use Rattle.initial.specs.Concluding.{is_closing, ConcludesBy}
+use Rattle.initial.specs.Concluding.{ConcludesBy}
 use Rattle.association.specs.Issuing.{with_incoming}
 use Rattle.setup.specs.Configs.{setup_of}
 use Rattle.initial.proofs.answering.answer_auth.Goals as goal
@@ -19,8 +19,7 @@ returns-clause-answered g c =
       taken = subst (λ reply. TakesRequest c.prepare.new.self c.args.number reply c.take.new.self) (c.in_ok-kept.ensures ∙ c.as_slice.ensures) c.take.ensures;
       between = c.decide.new.table;
       room = c.decide.ensures.table;
-      closed = c.is_closing-closed.ensures ∙ ap is_closing c.in_ok-reply.ensures.outcome;
       concluded =
-          subst (λ o. ConcludesBy (setup_of c.args.setup.now) (with_incoming c.args.association.now c.take.new.self) c.decide.new.table o c.conclude-child.result c.conclude-child.new.association c.conclude-child.new.table)
-          c.in_ok-reply.ensures.outcome c.conclude-child.ensures;
+          subst (λ o. ConcludesBy (setup_of c.args.setup.now) (with_incoming c.args.association.now c.take.new.self) c.decide.new.table o c.conclude-fate.result c.conclude-fate.new.association c.conclude-fate.new.table)
+          c.in_ok-reply.ensures.outcome c.conclude-fate.ensures;
     }

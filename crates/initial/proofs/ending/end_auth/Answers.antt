@@ -3,8 +3,8 @@ use Rattle.association.specs.Issuing.{with_outgoing}
 use Rattle.initial.proofs.ConcludingLemmas.{can_end}
 use Rattle.initial.proofs.ending.end_auth.Goals as goal
 
-pub conclude-child-requires : goal.conclude-child-requires
-conclude-child-requires g c =
+pub conclude-fate-requires : goal.conclude-fate-requires
+conclude-fate-requires g c =
     let a : Association = c.args.association.now in
     record {
       ready = can_end (with_outgoing a c.count.new.self) c.args.table.now c.in-AuthSent.sent c.in_ok-judged.judged.verdict c.in-AuthSent.is
