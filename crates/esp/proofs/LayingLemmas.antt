@@ -59,13 +59,13 @@ laid_size a last next (p ∷ ps) =
     omega arith
 
 -- the least padding is less than a word, and fills one
-pad_small : (n : ℕ) → pad_of n < 4
+pub pad_small : (n : ℕ) → pad_of n < 4
 pad_small n = omega arith
 
-pad_fills : (n : ℕ) → (n + pad_of n + 2) % 4 ≡ 0
+pub pad_fills : (n : ℕ) → (n + pad_of n + 2) % 4 ≡ 0
 pad_fills n = omega arith
 
-abbrev sending : Sa → ℕ → Sending
+abbrev pub sending : Sa → ℕ → Sending
 sending a last = record { association = a; last = last }
 
 -- once they have their ICVs, the packets that were laid are those that so many calls would have sealed

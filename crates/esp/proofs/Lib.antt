@@ -5,6 +5,7 @@ mod OpeningLemmas
 mod SealingLemmas
 mod SealingLaws
 mod LayingLemmas
+pub mod FinishLemmas
 mod AheadLemmas
 mod CheckLemmas
 mod PrecomputedLemmas

@@ -1,6 +1,6 @@
 -- Sealing a list in steps: packets are laid one after the other with zeros in the place of their ICVs, and
 -- then each gets its own.
-use Rattle.std.specs.Prelude.{◌≡◌, ℕ, ◌+◌, ◌-◌, ◌/◌, ◌%◌, ◌^◌, ◌<◌, ◌≤◌, List, [], ◌∷◌, ◌++◌, length, map, get_or, take, drop, replicate}
+use Rattle.std.specs.Prelude.{◌≡◌, ℕ, ◌+◌, ◌-◌, ◌/◌, ◌%◌, ◌^◌, ◌<◌, ◌≤◌, List, [], ◌∷◌, ◌++◌, length, map, get_or, take, drop, replicate, nat_le, if◌then◌else◌}
 use Rattle.std.specs.Borrow.{Bor}
 use Rattle.esp.specs.declared.sa.Sa.{Sa}
 use Rattle.byteorder.specs.Endian.{big_bytes}
@@ -70,3 +70,13 @@ abbrev pub with_values : List ℕ → List (List ℕ) → List ℕ → List ℕ
 with_values (size ∷ sizes) (value ∷ values) octets =
     (take size octets ++ value) ++ with_values sizes values (drop (size + 16) octets)
 with_values sizes values octets = octets
+
+-- a packet that was laid, with its ICV under this sequence number in place of its last 16 octets; fewer octets
+-- are no packet, and stay as they are
+unfoldable pub finished : Sa → ℕ → List ℕ → List ℕ
+finished a n octets =
+    if nat_le 16 (length octets) then take (length octets - 16) octets ++ check_value a n (take (length octets - 16) octets) else octets
+
+-- the same, where so many octets stand before the packet
+abbrev pub finished_behind : ℕ → Sa → ℕ → List ℕ → List ℕ
+finished_behind start a n octets = take start octets ++ finished a n (drop start octets)

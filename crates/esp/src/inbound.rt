@@ -17,7 +17,7 @@ use crate::load::{PACKETS_LEAST, gain_by_lanes};
 use crate::packet::{
     CHECK, HEAD, contents, high_half, is_check_value, is_judged_length, low_half_of,
 };
-use crate::precomputed::{Precomputed, Question};
+use crate::precomputed::{Precomputed, Question, own_of};
 use crate::sa::Sa;
 use crate::{EspFault, ListFault, ListStop};
 use replay::{Judgement, Window, recover};
@@ -149,19 +149,8 @@ impl<W: Window> Inbound<W> {
         ensures up { IfOk result (λ o. HandsUp self.old packet.now o.number o.next o.payload.now self.new) }
         ensures refused { IfErr result (λ e. Refuses W.may_want self.old packet.now e self.new) }
     {
-        let own = self.own_of(ahead);
+        let own = own_of(&self.association, ahead);
         self.open_with(packet, own)
-    }
-
-    // The value that was computed before, where it was computed for this SA.
-    fn own_of(&self, ahead: Option<Precomputed>) -> Option<Ahead>
-        ensures { (packet : List ℕ) → IfSome ahead (IsPrecomputed packet)
-            → IfSome result (IsAhead self.now.association packet) }
-    {
-        match ahead {
-            Some(found) => found.under(&self.association),
-            None => None,
-        }
     }
 
     // Opens a packet as [`Inbound::open`] does, with its ICV where it was computed ahead for its sequence
@@ -225,20 +214,15 @@ impl<W: Window> Inbound<W> {
         }
     }
 
-    // Whether the packet's last octets are the ICV for this sequence number over the rest. A value that was
-    // computed ahead for another number is of no use.
+    // Whether the packet's last octets are the ICV for this sequence number over the rest.
     fn is_intact(&self, packet: &[u8], number: u64, ahead: Option<Ahead>) -> bool
         requires long { 16 ≤ length packet.now }
         requires ahead { IfSome ahead (IsAhead self.now.association packet.now) }
         ensures { IsTrue result ↔ (drop (length packet.now - 16) packet.now
             ≡ check_value self.now.association number (take (length packet.now - 16) packet.now)) }
     {
-        let (covered, check) = packet.split_at(packet.len() - CHECK);
-        let value = match ahead {
-            Some(ahead) if ahead.number == number => ahead.value,
-            _ => self.association.check_value(number, covered),
-        };
-        is_check_value(check, &value)
+        let value = self.association.value_with(number, packet, ahead);
+        is_check_value(&packet[packet.len() - CHECK..], &value)
     }
 
     /// Opens packets in order, and appends for each what [`open`](Inbound::open) answers of it. The caller

@@ -1,9 +1,10 @@
 //! The sender's end of an SA (RFC 4303 section 3.3).
-ghost use Rattle.std.specs.Prelude.{◌≡◌, ◌≢◌, ℕ, ◌+◌, ◌<◌, ◌≤◌, ◌++◌, length, take, vec_len, replicate, IfOk, IfErr, OnOk};
+ghost use Rattle.std.specs.Prelude.{◌≡◌, ◌≢◌, ℕ, ◌+◌, ◌<◌, ◌≤◌, ◌++◌, length, take, vec_len, replicate, IfOk, IfErr, IfSome, OnOk};
 ghost use Rattle.std.specs.Vec.{vec_capacity};
-ghost use Rattle.esp.specs.Packet.{head, joined_parts, packet, trailer};
+ghost use Rattle.esp.specs.Packet.{head, joined_parts, trailer};
 ghost use Rattle.esp.specs.Sealing.{Seals, SealsFirst, IsSealRefusal, IsSealStop, most_octets, payloads_of};
-ghost use Rattle.esp.specs.Laying.{IsReady, Lays, LaysFirst};
+ghost use Rattle.esp.specs.Laying.{IsReady, Lays, LaysFirst, finished, finished_behind};
+ghost use Rattle.esp.specs.Precomputed.{IsPrecomputed, IsQuestion};
 ghost use Rattle.esp.specs.Progress.{EndsRightly, UsesRoom};
 ghost use Rattle.esp.specs.declared.fault.EspFault.{EspFault};
 
@@ -11,6 +12,7 @@ use crate::check_values::{GROUP, write_check_values};
 use crate::key::IntegrityKey;
 use crate::load::gain_by_lanes;
 use crate::packet::{CHECK, HEAD, PAYLOAD_LIMIT, TAIL, head_of, least_padding};
+use crate::precomputed::{Precomputed, Question, own_of};
 use crate::progress::Progress;
 use crate::sa::Sa;
 use crate::{EspFault, ListStop};
@@ -100,10 +102,61 @@ impl Outbound {
         ensures capacity { vec_capacity out.old ≤ vec_capacity out.new }
         ensures growth { vec_len out.new ≤ vec_len out.old + (length payload.now + 29) }
     {
+        let start = out.len();
+        let number = self.lay(next, payload, out)?;
+        self.finish(number, &mut out[start..], None);
+        Ok(number)
+    }
+
+    /// Appends a packet as [`Outbound::seal`] does, but with zeros in the place of its ICV, and answers its
+    /// sequence number. Refused as that is.
+    ///
+    /// [`Outbound::finish`] writes the ICV at any time later, since it depends on nothing that changes. So
+    /// several packets can be laid first, and their ICVs computed side by side ([`Outbound::question`],
+    /// [`precompute`](crate::precompute)).
+    pub fn lay(&mut self, next: u8, payload: &[u8], out: &mut Vec<u8>) -> Result<u64, EspFault>
+        ensures laid { OnOk result (Lays self.old next payload.now out.old.items self.new out.new.items) }
+        ensures sealed { IfOk result (λ number. Seals self.old next payload.now out.old.items number self.new
+            (finished_behind (length out.old.items) self.old.association number out.new.items)) }
+        ensures refused { IfErr result (λ fault. IsSealRefusal self.old payload.now fault
+            × (self.new ≡ self.old) × (out.new.items ≡ out.old.items)) }
+        ensures room { vec_len out.old + (length payload.now + 29) ≤ vec_capacity out.old
+            → IfErr result (λ fault. fault ≢ EspFault.Memory) }
+        ensures capacity { vec_capacity out.old ≤ vec_capacity out.new }
+        ensures growth { vec_len out.new ≤ vec_len out.old + (length payload.now + 29) }
+    {
         let (number, pad) = self.prepare(payload, out)?;
-        append_packet(out, &self.association, number, next, payload, pad);
+        append_without_check_value(out, &self.association, number, next, payload, pad);
         self.last = number;
         Ok(number)
+    }
+
+    /// What the ICV of a packet is computed from that was laid under this sequence number. For
+    /// [`precompute`](crate::precompute).
+    pub fn question<'a>(&'a self, number: u64, packet: &'a [u8]) -> Option<Question<'a>>
+        ensures { IfSome result (IsQuestion packet.now) }
+    {
+        if packet.len() < CHECK {
+            return None;
+        }
+        Some(Question::new(&self.association, number, packet))
+    }
+
+    /// Writes the ICV into a packet that was laid under this sequence number: over its last 16 octets,
+    /// computed from those before them. Octets that are fewer are no packet, and stay as they are.
+    ///
+    /// An ICV that was computed before is used where it was computed under this key and for this sequence
+    /// number; else it is computed here.
+    pub fn finish(&self, number: u64, packet: &mut [u8], ahead: Option<Precomputed>)
+        requires { IfSome ahead (IsPrecomputed packet.old) }
+        ensures { packet.new ≡ finished self.now.association number packet.old }
+    {
+        let Some(covered) = packet.len().checked_sub(CHECK) else {
+            return;
+        };
+        let own = own_of(&self.association, ahead);
+        let value = self.association.value_with(number, packet, own);
+        packet[covered..].copy_from_slice(&value);
     }
 
     /// Seals payloads in order, each as [`Outbound::seal`] does: appends their packets to `out`, one after
@@ -225,22 +278,6 @@ impl Outbound {
         }
     }
 
-    // Appends a packet, with zeros in the place of its ICV. Refused as [`Outbound::seal`] is.
-    fn lay(&mut self, next: u8, payload: &[u8], out: &mut Vec<u8>) -> Result<(), EspFault>
-        ensures laid { OnOk result (Lays self.old next payload.now out.old.items self.new out.new.items) }
-        ensures refused { IfErr result (λ fault. IsSealRefusal self.old payload.now fault
-            × (self.new ≡ self.old) × (out.new.items ≡ out.old.items)) }
-        ensures room { vec_len out.old + (length payload.now + 29) ≤ vec_capacity out.old
-            → IfErr result (λ fault. fault ≢ EspFault.Memory) }
-        ensures capacity { vec_capacity out.old ≤ vec_capacity out.new }
-        ensures growth { vec_len out.new ≤ vec_len out.old + (length payload.now + 29) }
-    {
-        let (number, pad) = self.prepare(payload, out)?;
-        append_without_check_value(out, &self.association, number, next, payload, pad);
-        self.last = number;
-        Ok(())
-    }
-
     // The sequence number and the padding of the next packet, for which there is room from then on.
     fn prepare(&self, payload: &[u8], out: &mut Vec<u8>) -> Result<(u64, usize), EspFault>
         ensures ready { IfOk result (λ found. IsReady self.now payload.now found.0 found.1) }
@@ -268,29 +305,6 @@ impl Outbound {
         }
         Ok((number, pad))
     }
-}
-
-// Appends a packet, for which there is room.
-fn append_packet(
-    out: &mut Vec<u8>,
-    association: &Sa,
-    number: u64,
-    next: u8,
-    payload: &[u8],
-    pad: usize,
-)
-    requires word { pad < 4 }
-    requires room { vec_len out.old + (HEAD + length payload.now + pad + TAIL + CHECK)
-        ≤ vec_capacity out.old }
-    ensures items { out.new.items ≡ out.old.items ++ packet association.now number next payload.now pad }
-    ensures capacity { vec_capacity out.old ≤ vec_capacity out.new }
-    ensures size { vec_len out.new ≡ vec_len out.old + (HEAD + length payload.now + pad + TAIL + CHECK) }
-{
-    let start = out.len();
-    let head = head_of(association.spi, number);
-    append(out, &[&head, payload, &PADDING[..pad], &[pad as u8, next]]);
-    let check = association.check_value(number, &out[start..]);
-    append(out, &[&check]);
 }
 
 // Appends a packet, for which there is room, with zeros in the place of its ICV.

@@ -106,6 +106,17 @@ impl Precomputed {
     }
 }
 
+/// The value that was computed before, where it was computed for this SA.
+pub fn own_of(association: &Sa, ahead: Option<Precomputed>) -> Option<Ahead>
+    ensures { (packet : List ℕ) → IfSome ahead (IsPrecomputed packet)
+        → IfSome result (IsAhead association.now packet) }
+{
+    match ahead {
+        Some(found) => found.under(association),
+        None => None,
+    }
+}
+
 /// The ICVs that are asked for, each at the place of its question, where it gains time to compute them side
 /// by side. Takes no memory.
 pub fn precompute(questions: &[Option<Question<'_>>]) -> [Option<Precomputed>; GROUP]

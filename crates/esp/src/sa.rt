@@ -1,9 +1,11 @@
 //! What the two ends of a one-way SA agree on.
-ghost use Rattle.std.specs.Prelude.{◌≡◌, ◌+◌, ◌<◌, ◌++◌, [], if◌then◌else◌, IfSome, IfNone};
+ghost use Rattle.std.specs.Prelude.{◌≡◌, ◌+◌, ◌<◌, ◌≤◌, ◌++◌, [], length, if◌then◌else◌, IfSome, IfNone};
 ghost use Rattle.lanes.specs.Task.{icv_of};
 ghost use Rattle.mac.specs.Hmac.{icv_sha256};
+ghost use Rattle.esp.specs.Ahead.{IsAhead, value_of};
 ghost use Rattle.esp.specs.Packet.{check_value, number_limit};
 
+use crate::ahead::Ahead;
 use crate::key::IntegrityKey;
 use crate::packet::{CHECK, high_half, unsent_of};
 use lanes::Task;
@@ -41,6 +43,19 @@ impl Sa {
         ensures { result ≡ check_value self.now number covered.now }
     {
         self.task(covered, &high_half(number)).icv()
+    }
+
+    /// The ICV of a packet under this sequence number, over all but its last 16 octets. A value that was
+    /// computed ahead for another number is of no use.
+    pub fn value_with(&self, number: u64, packet: &[u8], ahead: Option<Ahead>) -> [u8; CHECK]
+        requires long { CHECK ≤ length packet.now }
+        requires ahead { IfSome ahead (IsAhead self.now packet.now) }
+        ensures { result ≡ value_of self.now number packet.now }
+    {
+        match ahead {
+            Some(ahead) if ahead.number == number => ahead.value,
+            _ => self.check_value(number, &packet[..packet.len() - CHECK]),
+        }
     }
 
     /// What its ICV is computed from: the octets of a packet from SPI to next header, and the high half of

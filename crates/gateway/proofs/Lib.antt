@@ -2,6 +2,7 @@ mod PacketLemmas
 mod LawLemmas
 mod RunLemmas
 mod GroupLemmas
+mod LayingLemmas
 mod QuietLemmas
 pub mod WorldLemmas
 mod WorldHistoryLemmas

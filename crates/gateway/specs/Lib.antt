@@ -6,6 +6,7 @@ pub mod Inputs
 pub mod Steps
 pub mod Runs
 pub mod Groups
+pub mod Laying
 pub mod Worlds
 pub mod WorldHistories
 pub mod WorldParties

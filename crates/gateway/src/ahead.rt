@@ -9,6 +9,30 @@ use esp::{GROUP, Precomputed, Question, precompute};
 use sadb::Table;
 use traffic::question;
 
+/// ICVs of the ESP packets among some inputs, made by [`Gateway::ahead`](crate::Gateway::ahead).
+#[derive(Clone, Copy)]
+pub struct Ahead {
+    values: [Option<Precomputed>; GROUP],
+}
+
+impl Ahead {
+    pub(crate) fn of(table: &Table, inputs: &[Input<'_>]) -> Ahead
+        requires { length inputs.now ≤ GROUP }
+        ensures { ArePrecomputed (packets_in (map input_view inputs.now)) result.values }
+    {
+        Ahead {
+            values: values_ahead(table, inputs),
+        }
+    }
+
+    /// The ICV that was computed ahead for the input at a place, if there is one.
+    pub fn at(&self, place: usize) -> Option<Precomputed>
+        ensures { result ≡ get_or self.now.values place None }
+    {
+        value_at(&self.values, place)
+    }
+}
+
 /// The ICVs of the ESP packets among these inputs, each at its input's place. Computed only where that is
 /// faster side by side.
 pub fn values_ahead(table: &Table, inputs: &[Input<'_>]) -> [Option<Precomputed>; GROUP]
@@ -33,7 +57,7 @@ fn questions_of<'a>(table: &'a Table, inputs: &[Input<'a>]) -> [Option<Question<
     questions
 }
 
-/// The ICV that was computed ahead for the input at a place, if there is one.
+/// The ICV that was computed ahead for the packet at a place, if there is one.
 pub fn value_at(ahead: &[Option<Precomputed>], place: usize) -> Option<Precomputed>
     ensures { result ≡ get_or ahead.now place None }
 {

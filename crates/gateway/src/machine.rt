@@ -1,23 +1,27 @@
 //! A gateway, and one step of it.
-ghost use Rattle.std.specs.Prelude.{◌≡◌, ◌<◌, IfSome};
+ghost use Rattle.std.specs.Prelude.{◌≡◌, ◌<◌, ◌≤◌, IfSome, length, map};
 ghost use Rattle.std.specs.Option.{option_copied};
 ghost use Rattle.sadb.specs.Database.{IsSoundTable, IsStart};
 ghost use Rattle.ike.specs.Machines.{keys_of_serial};
 ghost use Rattle.ike.specs.Moments.{IsTimely};
 ghost use Rattle.ike.specs.Soundness.{AreReservationsHeld, IsSoundMachine};
-ghost use Rattle.esp.specs.Precomputed.{IsPrecomputed};
-ghost use Rattle.gateway.specs.Groups.{packet_in};
-ghost use Rattle.gateway.specs.Inputs.{input_view};
+ghost use Rattle.ike.specs.Outputs.{no_trace};
+ghost use Rattle.esp.specs.Precomputed.{ArePrecomputed, IsPrecomputed};
+ghost use Rattle.sadb.specs.Laying.{KeepsSenders};
+ghost use Rattle.gateway.specs.Groups.{packet_in, packets_in};
+ghost use Rattle.gateway.specs.Inputs.{Outward, input_view};
+ghost use Rattle.gateway.specs.Laying.{finished_output, finished_outputs};
 ghost use Rattle.gateway.specs.Outputs.{output_view};
 ghost use Rattle.gateway.specs.States.{new_gateway};
 ghost use Rattle.gateway.specs.Steps.{Steps, Traces};
 ghost use Rattle.effects.specs.Taking.{meaning_of};
 ghost use Rattle.moments.specs.Next.{NothingIsDueBefore, SomethingIsDue};
 
-use crate::stepping::take;
-use crate::{Input, Output, Traced};
+use crate::laying::finish_all;
+use crate::stepping::{lay, take};
+use crate::{Ahead, Input, Output, Traced};
 use association::Association;
-use esp::Precomputed;
+use esp::{GROUP, Precomputed};
 use flows::FlowMemory;
 use flows::laws::answers_stay_right;
 use ike::Ike;
@@ -150,21 +154,6 @@ impl<C: Sealer + Agreement + Proof> Gateway<C> {
         self.traced_step(alloc, input).output
     }
 
-    // One step as [`step`](Gateway::step), with an ESP packet's ICV where that was computed ahead.
-    pub(crate) fn step_ahead<'a>(
-        &mut self,
-        alloc: Global,
-        input: &Input<'a>,
-        ahead: Option<Precomputed>,
-    ) -> Output<'a>
-        requires { IfSome ahead (IsPrecomputed (packet_in (input_view input.now))) }
-        ensures { Steps
-            (meaning_of C.Sealer C.Agreement C.Proof self.old.caller)
-            (input_view input.now) self.old (output_view result) self.new }
-    {
-        self.traced_ahead(alloc, input, ahead).output
-    }
-
     /// One step as [`step`](Gateway::step), that also returns the trace: which message was sent under which
     /// IKE keys, and which keys and which Child SA were made.
     pub fn traced_step<'a>(&mut self, alloc: Global, input: &Input<'a>) -> Traced<'a>
@@ -172,12 +161,23 @@ impl<C: Sealer + Agreement + Proof> Gateway<C> {
             (meaning_of C.Sealer C.Agreement C.Proof self.old.caller)
             (input_view input.now) self.old (output_view result.output) result.trace self.new }
     {
-        self.traced_ahead(alloc, input, None)
+        self.traced_step_ahead(alloc, input, None)
     }
 
-    // One step as [`traced_step`](Gateway::traced_step), with an ESP packet's ICV where that was computed
-    // ahead.
-    fn traced_ahead<'a>(
+    /// ICVs of the ESP packets among up to 64 inputs, computed side by side, where that is faster, from the
+    /// table as it is now: for packets whose SA pair is there and whose sequence number is not taken. For
+    /// [`traced_step_ahead`](Gateway::traced_step_ahead). Takes no memory.
+    pub fn ahead(&self, inputs: &[Input<'_>]) -> Ahead
+        requires { length inputs.now ≤ GROUP }
+        ensures { ArePrecomputed (packets_in (map input_view inputs.now)) result.values }
+    {
+        Ahead::of(&self.table, inputs)
+    }
+
+    /// One step as [`traced_step`](Gateway::traced_step), with an ESP packet's ICV where that was computed
+    /// ahead. The packet is verified with the table as it is by now: an ICV that was computed under another
+    /// key or for another sequence number is not used.
+    pub fn traced_step_ahead<'a>(
         &mut self,
         alloc: Global,
         input: &Input<'a>,
@@ -198,5 +198,35 @@ impl<C: Sealer + Agreement + Proof> Gateway<C> {
             &self.policy,
             &self.caller,
         )
+    }
+
+    /// Takes an outbound packet as [`step`](Gateway::step) takes [`Input::Outward`], but an ESP packet that
+    /// goes out has zeros in the place of its ICV. [`finish`](Gateway::finish) writes that: so the ICVs of
+    /// packets that are laid one after the other are computed side by side.
+    pub fn lay<'a>(&mut self, alloc: Global, packet: &'a [u8]) -> Output<'a>
+        ensures traced { Traces
+            (meaning_of C.Sealer C.Agreement C.Proof self.old.caller)
+            (Outward packet.now) self.old (output_view (finished_output self.new.table.pairs result))
+            no_trace self.new }
+        ensures senders { KeepsSenders self.old.table.pairs self.new.table.pairs }
+    {
+        lay(
+            alloc,
+            packet,
+            &self.ike,
+            &mut self.table,
+            &mut self.flows,
+            &self.policy,
+        )
+    }
+
+    /// Writes the ICV into each ESP packet of up to 64 outputs of [`lay`](Gateway::lay), computed side by side
+    /// where that is faster. Takes no memory. Whatever was laid meanwhile, and whichever packets came, the
+    /// outputs are those of as many steps; a packet whose SA pair was removed stays as it is.
+    pub fn finish(&self, laid: &mut [Output<'_>])
+        requires { length laid.old ≤ GROUP }
+        ensures { laid.new ≡ finished_outputs self.now.table.pairs laid.old }
+    {
+        finish_all(&self.table, laid);
     }
 }

@@ -1,9 +1,10 @@
 //! A list of inputs.
-ghost use Rattle.std.specs.Prelude.{◌≡◌, ◌+◌, ◌≤◌, OnOk, IfErr, IsOk, length, map, vec_len};
+ghost use Rattle.std.specs.Prelude.{◌≡◌, ◌+◌, ◌≤◌, OnOk, IfErr, IfSome, IsOk, length, map, vec_len};
 ghost use Rattle.std.specs.Vec.{vec_capacity};
-ghost use Rattle.esp.specs.Precomputed.{ArePrecomputed};
-ghost use Rattle.gateway.specs.Groups.{TakesFirst, packets_in};
+ghost use Rattle.esp.specs.Precomputed.{ArePrecomputed, IsPrecomputed};
+ghost use Rattle.gateway.specs.Groups.{TakesFirst, packet_in, packets_in};
 ghost use Rattle.gateway.specs.Inputs.{input_view};
+ghost use Rattle.gateway.specs.Laying.{TakesNext, finished_from};
 ghost use Rattle.gateway.specs.Runs.{RunsFirst, Stops};
 ghost use Rattle.effects.specs.Taking.{meaning_of};
 
@@ -23,7 +24,9 @@ use suite::{Agreement, Proof, Sealer};
 /// ICVs of up to 64 inputs at a time are computed side by side, where that is faster, from the table as it
 /// is before them: for ESP packets whose pair is there and whose number is not taken. Each packet is then
 /// verified in its turn, with the table as it is by then. An ICV that was computed under another key or for
-/// another number is not used. This takes no memory.
+/// another number is not used. The ICVs of outbound packets that come one after the other are computed side
+/// by side as well, once all of these packets have their sequence numbers, and before any other input is
+/// taken. Neither takes memory.
 ///
 /// Over every list of inputs:
 ///
@@ -93,6 +96,9 @@ fn run_group<'a, C: Sealer + Agreement + Proof>(
 
 // Takes inputs in order, with the ICVs that were computed ahead. Reserves the place of an output before its
 // input. Returns how many it took.
+//
+// The ESP packets that were laid for the outputs from `start` on get their ICVs together: before an input of
+// another kind is taken, and where the list ends or has to stop.
 fn run_with<'a, C: Sealer + Agreement + Proof>(
     alloc: Global,
     gateway: &mut Gateway<C>,
@@ -100,7 +106,8 @@ fn run_with<'a, C: Sealer + Agreement + Proof>(
     ahead: &[Option<Precomputed>],
     outputs: &mut Vec<Output<'a>>,
 ) -> usize
-    requires { ArePrecomputed (packets_in (map input_view inputs.now)) ahead.now }
+    requires few { length inputs.now ≤ GROUP }
+    requires ahead { ArePrecomputed (packets_in (map input_view inputs.now)) ahead.now }
     ensures first { TakesFirst
         (meaning_of C.Sealer C.Agreement C.Proof)
         result (map input_view inputs.now) gateway.old outputs.old.items gateway.new outputs.new.items }
@@ -109,14 +116,52 @@ fn run_with<'a, C: Sealer + Agreement + Proof>(
     ensures capacity { vec_capacity outputs.old ≤ vec_capacity outputs.new }
     ensures size { vec_len outputs.new ≡ vec_len outputs.old + result }
 {
+    let mut start = outputs.len();
     for (done, input) in inputs.iter().enumerate() {
         if outputs.reserve(1).is_err() {
+            gateway.finish(&mut outputs[start..]);
             return done;
         }
-        gateway.invariants_hold();
         let value = value_at(ahead, done);
-        let output = gateway.step_ahead(alloc, input, value);
-        outputs.push_reserved(output);
+        start = take_next(alloc, gateway, input, value, outputs, start);
     }
+    gateway.finish(&mut outputs[start..]);
     inputs.len()
+}
+
+// Takes an input, for whose output there is a place. Before and after it, the ESP packets of the outputs from
+// `start` on, or from the place that is returned on, have no ICVs yet. An outbound packet is only laid; before an
+// input of another kind those packets get their ICVs.
+fn take_next<'a, C: Sealer + Agreement + Proof>(
+    alloc: Global,
+    gateway: &mut Gateway<C>,
+    input: &Input<'a>,
+    ahead: Option<Precomputed>,
+    outputs: &mut Vec<Output<'a>>,
+    start: usize,
+) -> usize
+    requires ahead { IfSome ahead (IsPrecomputed (packet_in (input_view input.now))) }
+    requires room { vec_len outputs.old + 1 ≤ vec_capacity outputs.old }
+    requires within { start ≤ vec_len outputs.old }
+    requires few { vec_len outputs.old ≤ start + GROUP }
+    ensures next { TakesNext
+        (meaning_of C.Sealer C.Agreement C.Proof)
+        (input_view input.now)
+        gateway.old (finished_from start gateway.old.table.pairs outputs.old.items)
+        gateway.new (finished_from result gateway.new.table.pairs outputs.new.items) }
+    ensures begins { start ≤ result }
+    ensures ends { result ≤ vec_len outputs.new }
+    ensures capacity { vec_capacity outputs.old ≤ vec_capacity outputs.new }
+    ensures size { vec_len outputs.new ≡ vec_len outputs.old + 1 }
+{
+    gateway.invariants_hold();
+    if let Input::Outward { packet } = *input {
+        let laid = gateway.lay(alloc, packet);
+        outputs.push_reserved(laid);
+        return start;
+    }
+    gateway.finish(&mut outputs[start..]);
+    let output = gateway.traced_step_ahead(alloc, input, ahead).output;
+    outputs.push_reserved(output);
+    outputs.len()
 }

@@ -8,10 +8,13 @@ ghost use Rattle.ike.specs.Soundness.{AreReservationsHeld, IsSoundMachine};
 ghost use Rattle.ike.specs.Steps as ike_steps;
 ghost use Rattle.gateway.specs.Groups.{packet_in};
 ghost use Rattle.gateway.specs.Inputs.{input_view};
+ghost use Rattle.gateway.specs.Laying.{finished_output};
 ghost use Rattle.gateway.specs.Outputs.{output_view};
+ghost use Rattle.sadb.specs.Laying.{KeepsSenders};
 ghost use Rattle.gateway.specs.Steps.{AdmitsPacket, DoesInput, ReceivesPacket, SendsPacket, StepsIke};
 ghost use Rattle.effects.specs.Taking.{meaning_of};
 
+use crate::laying::finished;
 use crate::{Input, Output, Reason, Traced};
 use esp::Precomputed;
 use flows::FlowMemory;
@@ -25,8 +28,8 @@ use policy::Policy;
 use sadb::Table;
 use std::alloc::Global;
 use suite::{Agreement, Proof, Sealer};
-use traffic::laws::no_pair_comes;
-use traffic::{admit, receive_ahead, send_remembering};
+use traffic::laws::{no_pair_comes, senders_stay};
+use traffic::{admit, receive_ahead};
 
 // Takes an input of any kind, an ESP packet with its ICV where that was computed ahead.
 pub(crate) fn take<'a, C: Sealer + Agreement + Proof>(
@@ -202,6 +205,30 @@ fn receive_packet<'a>(table: &mut Table, packet: &'a [u8], ahead: Option<Precomp
     Output::of_arrival(receive_ahead(table, packet, ahead))
 }
 
+/// Lays an outbound packet.
+pub(crate) fn lay<'a>(
+    alloc: Global,
+    packet: &'a [u8],
+    ike: &Ike,
+    table: &mut Table,
+    flows: &mut FlowMemory,
+    policy: &Policy,
+) -> Output<'a>
+    requires sound { IsSoundMachine ike.now table.old }
+    requires reservations { AreReservationsHeld ike.now.held table.old }
+    requires right { AllRight policy.now table.old.pairs flows.old }
+    ensures sent { SendsPacket policy.now table.old packet.now
+        (output_view (finished_output table.new.pairs result)) table.new }
+    ensures sound { IsSoundMachine ike.now table.new }
+    ensures reservations { AreReservationsHeld ike.now.held table.new }
+    ensures right { AllRight policy.now table.new.pairs flows.new }
+    ensures senders { KeepsSenders table.old.pairs table.new.pairs }
+{
+    soundness_asks_for_reservations();
+    no_spi_is_lost();
+    lay_packet(alloc, table, flows, policy, packet)
+}
+
 fn send_packet<'a>(
     alloc: Global,
     table: &mut Table,
@@ -214,7 +241,26 @@ fn send_packet<'a>(
     ensures reserved { table.new.reserved ≡ table.old.reserved }
     ensures right { AllRight policy.now table.new.pairs flows.new }
 {
-    match send_remembering(alloc, table, flows, policy, packet) {
+    let laid = lay_packet(alloc, table, flows, policy, packet);
+    finished(table, laid, None)
+}
+
+fn lay_packet<'a>(
+    alloc: Global,
+    table: &mut Table,
+    flows: &mut FlowMemory,
+    policy: &Policy,
+    packet: &'a [u8],
+) -> Output<'a>
+    requires { AllRight policy.now table.old.pairs flows.old }
+    ensures sent { SendsPacket policy.now table.old packet.now
+        (output_view (finished_output table.new.pairs result)) table.new }
+    ensures reserved { table.new.reserved ≡ table.old.reserved }
+    ensures right { AllRight policy.now table.new.pairs flows.new }
+    ensures senders { KeepsSenders table.old.pairs table.new.pairs }
+{
+    senders_stay();
+    match traffic::lay(alloc, table, flows, policy, packet) {
         Ok(departure) => Output::of_departure(departure),
         Err(_) => Output::Refused {
             reason: Reason::Memory,

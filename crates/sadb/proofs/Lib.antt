@@ -2,6 +2,7 @@ mod NumberedLemmas
 mod PlacesLemmas
 mod GivenLemmas
 mod PairsLemmas
+mod SenderLemmas
 mod TableLemmas
 mod FollowingLemmas
 mod LookupLemmas

@@ -456,13 +456,13 @@ opened_unchanged now x s new serial packet (Err fault) shown rest refused =
     ap (table_of x) (rest ∙ (λ i. record s { pairs = same i })) ∙ shown)
 
 -- after sealing, whatever came of it
-pub sealed_in : (x : GivenSpis) (s new : PairsBySerial) (serial next : ℕ) (payload before after : List ℕ) → (result : Result ℕ EspFault)
+pub sealed_in : (x : GivenSpis) (s new : PairsBySerial) (serial next : ℕ) (payload before out : List ℕ) (after : ℕ → List ℕ) (result : Result ℕ EspFault)
     → IsTable x s → new ≡ record s { pairs = new.pairs }
-    → IfOk result (λ number. SealsPair s.pairs serial next payload before number new.pairs after) → IfErr result (λ fault. SealRefusalAt s.pairs serial payload fault × (new ≡ s) × (after ≡ before))
+    → IfOk result (λ number. SealsPair s.pairs serial next payload before number new.pairs (after number)) → IfErr result (λ fault. SealRefusalAt s.pairs serial payload fault × (new ≡ s) × (out ≡ before))
     → IsTable x new
-sealed_in x s new serial next payload before after (Ok number) sound rest sealed refused =
+sealed_in x s new serial next payload before out after (Ok number) sound rest sealed refused =
     changed_in x s new serial sealed.pair (record sealed.pair { outbound = sealed.outbound }) sound sealed.there refl rest sealed.changed
-sealed_in x s new serial next payload before after (Err fault) sound rest sealed refused = subst (IsTable x) (sym refused.1) sound
+sealed_in x s new serial next payload before out after (Err fault) sound rest sealed refused = subst (IsTable x) (sym refused.1) sound
 
 -- what a table owes to its callers, from what its parts owe it
 pub all_sound : (now : Database) (x : GivenSpis) (s : PairsBySerial) → table_of x s ≡ now → IsTable x s → 1 ≤ s.next
@@ -527,9 +527,9 @@ refuses_at now x s new serial packet (Err fault) shown rest refused = record {
   changed = changes_at now x s new serial refused.pair (record refused.pair { inbound = refused.inbound }) shown refused.there rest refused.changed;
 }
 
-pub seals_at : (now : Database) (x : GivenSpis) (s new : PairsBySerial) (serial next : ℕ) (payload before after : List ℕ) (result : Result ℕ EspFault) → table_of x s ≡ now
-    → new ≡ record s { pairs = new.pairs } → IfOk result (λ number. SealsPair s.pairs serial next payload before number new.pairs after)
-    → IfOk result (λ number. SealsAt now serial next payload before number (table_of x new) after)
+pub seals_at : (now : Database) (x : GivenSpis) (s new : PairsBySerial) (serial next : ℕ) (payload before : List ℕ) (after : ℕ → List ℕ) (result : Result ℕ EspFault) → table_of x s ≡ now
+    → new ≡ record s { pairs = new.pairs } → IfOk result (λ number. SealsPair s.pairs serial next payload before number new.pairs (after number))
+    → IfOk result (λ number. SealsAt now serial next payload before number (table_of x new) (after number))
 seals_at now x s new serial next payload before after (Ok number) shown rest sealed = record {
   pair = sealed.pair;
   outbound = sealed.outbound;

@@ -4,5 +4,6 @@ pub mod Database
 pub mod Numbered
 pub mod Storage
 pub mod Following
+pub mod Laying
 pub mod Mirrors
 pub mod Contents

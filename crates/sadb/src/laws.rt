@@ -7,6 +7,7 @@ ghost use Rattle.sadb.specs.Contents.{table_content};
 ghost use Rattle.sadb.specs.Database.{Database, HasInbound, IsReady, Installs, IsAfter, IsAsBefore, IsInbound, IsOutbound, IsTableRefusal, IsSoundTable};
 ghost use Rattle.sadb.specs.Database.{Marks, OpensAt, PairMap, RefusesAt, Releases, RemovesAllOf, Removes, Reserves, SealsAt};
 ghost use Rattle.sadb.specs.Following.{Follows};
+ghost use Rattle.sadb.specs.Laying.{KeepsSenders};
 ghost use Rattle.sadb.specs.Mirrors.{Mirrors, reflection};
 ghost use Rattle.sadb.specs.declared.fault.TableFault.{TableFault};
 ghost use Rattle.sadb.specs.declared.pair.Pair.{Pair};
@@ -54,6 +55,18 @@ pub fn room_stays()
     ensures sealing { (old new : Database) (serial next : ℕ) (payload before : List ℕ) (number : ℕ)
         (after : List ℕ)
         → IsReady old → SealsAt old serial next payload before number new after → IsReady new }
+{}
+
+/// By an opening, whatever came of it, and a sealing no SA pair comes or goes, and none gets another outbound
+/// SA. So a packet that was laid can be finished after any number of these.
+pub fn senders_stay()
+    ensures opening { (old new : Database) (serial : ℕ) (packet : List ℕ) (number next : ℕ) (payload : List ℕ)
+        → OpensAt old serial packet number next payload new → KeepsSenders old.pairs new.pairs }
+    ensures refusing { (old new : Database) (serial : ℕ) (packet : List ℕ) (fault : EspFault)
+        → RefusesAt old serial packet fault new → KeepsSenders old.pairs new.pairs }
+    ensures sealing { (old new : Database) (serial next : ℕ) (payload before : List ℕ) (number : ℕ)
+        (after : List ℕ)
+        → SealsAt old serial next payload before number new after → KeepsSenders old.pairs new.pairs }
 {}
 
 /// An SPI that was given is not given again, whatever is done between.

@@ -9,6 +9,7 @@ ghost use Rattle.policy.specs.Decisions.{Covers};
 ghost use Rattle.replay.specs.Window.{IsSoundWindow};
 ghost use Rattle.sadb.specs.declared.pair.Pair as held;
 ghost use Rattle.sadb.specs.Database.{BelongsTo, Carries, IsAfter, IsForPair, IsNextOf, IsOutbound, SealRefusalAt};
+ghost use Rattle.sadb.specs.Laying.{finished_at_behind};
 ghost use Rattle.sadb.specs.Storage.{MarksPair, OpensPair, RefusesPair, SealsPair, key_of};
 
 use crate::pair::{Pair, State};
@@ -181,8 +182,8 @@ impl Pairs {
         opened
     }
 
-    /// Seals a payload by an SA pair's outbound SA.
-    pub fn seal(
+    /// Lays a packet by an SA pair's outbound SA.
+    pub fn lay(
         &mut self,
         serial: u32,
         next: u8,
@@ -192,15 +193,16 @@ impl Pairs {
         requires { IsSome (map.get self.old.pairs serial) }
         ensures sealed { IfOk result (λ number.
             SealsPair self.old.pairs serial next payload.now out.old.items number self.new.pairs
-            out.new.items) }
+            (finished_at_behind (length out.old.items) self.new.pairs serial number out.new.items)) }
         ensures refused { IfErr result (λ fault. SealRefusalAt self.old.pairs serial payload.now fault
             × (self.new ≡ self.old) × (out.new.items ≡ out.old.items)) }
         ensures rest { self.new ≡ record self.old { pairs = self.new.pairs } }
         ensures space { vec_len out.old + (length payload.now + 29) ≤ vec_capacity out.old
             → IfErr result (λ fault. fault ≢ EspFault.Memory) }
+        ensures behind { length out.old.items ≤ length out.new.items }
     {
         let key = key(&self.keys, serial).unwrap();
-        self.slab[key].outbound.seal(next, payload, out)
+        self.slab[key].outbound.lay(next, payload, out)
     }
 
     /// The next SA pair by serial.

@@ -5,14 +5,15 @@ ghost use Rattle.sadb.specs.Database.{pair_at, IsThere, Removes, IsLive, Marks, 
 ghost use Rattle.sadb.specs.Database.{BelongsTo, IsForPair, IsNextOf, OpensAt, RefusesAt, RemovesAllOf, SealsAt, SealRefusalAt};
 ghost use Rattle.std.specs.Option.{option_copied};
 ghost use Rattle.std.specs.Vec.{vec_capacity};
+ghost use Rattle.sadb.specs.Laying.{finished_at, finished_at_behind};
 ghost use Rattle.sadb.specs.Storage.{RemovesIfOf};
 ghost use Rattle.esp.specs.declared.fault.EspFault.{EspFault};
-ghost use Rattle.esp.specs.Precomputed.{IsPrecomputed};
+ghost use Rattle.esp.specs.Precomputed.{IsPrecomputed, IsQuestion};
 
 use crate::pairs::Pairs;
 use crate::places::Places;
 use crate::{Pair, Spi, TableFault};
-use esp::{EspFault, Opened, Precomputed};
+use esp::{EspFault, Opened, Precomputed, Question};
 use policy::Flow;
 use std::alloc::Global;
 use std::marker::Model;
@@ -281,6 +282,60 @@ impl Table {
         ensures room { vec_len out.old + (length payload.now + 29) ≤ vec_capacity out.old
             → IfErr result (λ fault. fault ≢ EspFault.Memory) }
     {
-        self.pairs.seal(serial, next, payload, out)
+        let start = out.len();
+        let number = self.lay(serial, next, payload, out)?;
+        self.finish(serial, number, &mut out[start..], None);
+        Ok(number)
+    }
+
+    /// Appends a packet as [`seal`](Table::seal) does, but with zeros in the place of its ICV, and answers its
+    /// sequence number. Refused as that is. [`finish`](Table::finish) writes the ICV.
+    pub fn lay(
+        &mut self,
+        serial: u32,
+        next: u8,
+        payload: &[u8],
+        out: &mut Vec<u8>,
+    ) -> Result<u64, EspFault>
+        requires { IsThere self.old.pairs serial }
+        ensures sealed { IfOk result (λ number.
+            SealsAt self.old serial next payload.now out.old.items number self.new
+            (finished_at_behind (length out.old.items) self.new.pairs serial number out.new.items)) }
+        ensures refused { IfErr result (λ fault. SealRefusalAt self.old.pairs serial payload.now fault
+            × (self.new ≡ self.old) × (out.new.items ≡ out.old.items)) }
+        ensures room { vec_len out.old + (length payload.now + 29) ≤ vec_capacity out.old
+            → IfErr result (λ fault. fault ≢ EspFault.Memory) }
+        ensures behind { length out.old.items ≤ length out.new.items }
+    {
+        self.pairs.lay(serial, next, payload, out)
+    }
+
+    /// Writes the ICV into a packet that the SA pair with this serial laid under this sequence number, as
+    /// [`esp::Outbound::finish`] does. No call but [`remove`](Table::remove) and
+    /// [`remove_all_of`](Table::remove_all_of) changes what is written; where the pair is there no more,
+    /// nothing is.
+    pub fn finish(&self, serial: u32, number: u64, packet: &mut [u8], ahead: Option<Precomputed>)
+        requires { IfSome ahead (IsPrecomputed packet.old) }
+        ensures { packet.new ≡ finished_at self.now.pairs serial number packet.old }
+    {
+        if let Some(pair) = self.get(serial) {
+            pair.outbound.finish(number, packet, ahead);
+        }
+    }
+
+    /// What the ICV of a packet is computed from that the SA pair with this serial laid under this sequence
+    /// number. For [`esp::precompute`].
+    pub fn question<'a>(
+        &'a self,
+        serial: u32,
+        number: u64,
+        packet: &'a [u8],
+    ) -> Option<Question<'a>>
+        ensures { IfSome result (IsQuestion packet.now) }
+    {
+        match self.get(serial) {
+            Some(pair) => pair.outbound.question(number, packet),
+            None => None,
+        }
     }
 }

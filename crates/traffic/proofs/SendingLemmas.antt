@@ -26,7 +26,7 @@ use Rattle.traffic.specs.Admitting.{Admits}
 use Rattle.traffic.specs.NextHeaders.{next_header_of}
 use Rattle.std.specs.Prelude.{Result, Ok, Err, IfErr, IfOk}
 use Rattle.traffic.specs.declared.departure.Departure.{Departure}
-use Rattle.traffic.specs.Outcomes.{outcome_of_departure, Outcome, Up, Dummy, Sealed, Clear, Discarded, Dropped}
+use Rattle.traffic.specs.Outcomes.{Outcome, Up, Dummy, Sealed, Clear, Discarded, Dropped}
 use Rattle.traffic.specs.Sending.{Departs, IsDecided, IsExhausted, IsProtected, IsSealed, IsTreated, Protects, Sends}
 use Rattle.traffic.specs.declared.fault.PacketFault.TheVariants.{UnknownAssociation, Esp, Inner, OutsideSelectors}
 use Rattle.traffic.proofs.FollowingLemmas.{Keeps, sent}
@@ -326,13 +326,13 @@ departs old policy treatments.Discarded flow packet outcome new flow_is decision
     subst (λ (o : Outcome). Sends old policy packet o new) (sym is.0) (record { flow = flow; decided = record { flow_is = flow_is; decision = decision } }, is.1)
 
 -- a call departs, or asks for memory in vain
-pub departs_if : {E : Type 0} (old : Database) (policy : List Entry) (treatment : Treatment) (flow : Flow) (packet : Octets) (result : Result Departure E) (new : Database) → IsFlowOf packet flow
-    → IsDecision policy flow Outward (action_of treatment) → IfOk result (λ departure. Departs old treatment flow packet (outcome_of_departure departure) new)
-    → IfOk result (λ departure. Sends old policy packet (outcome_of_departure departure) new)
-departs_if old policy treatment flow packet (Ok departure) new flow_is decision is = departs old policy treatment flow packet (outcome_of_departure departure) new flow_is decision is
-departs_if old policy treatment flow packet (Err e) new flow_is decision is = tt
+pub departs_if : {E : Type 0} (old : Database) (policy : List Entry) (treatment : Treatment) (flow : Flow) (packet : Octets) (said : Departure → Outcome) (result : Result Departure E) (new : Database) → IsFlowOf packet flow
+    → IsDecision policy flow Outward (action_of treatment) → IfOk result (λ departure. Departs old treatment flow packet (said departure) new)
+    → IfOk result (λ departure. Sends old policy packet (said departure) new)
+departs_if old policy treatment flow packet said (Ok departure) new flow_is decision is = departs old policy treatment flow packet (said departure) new flow_is decision is
+departs_if old policy treatment flow packet said (Err e) new flow_is decision is = tt
 
-pub sent_if : {E : Type 0} (P : Database → Database → Type 0) → Keeps P → (A B : Type 0) (old : Database) (policy : List Entry) (packet : Octets) (result : Result Departure E) (new : Database)
-    → IfOk result (λ departure. Sends old policy packet (outcome_of_departure departure) new) → IfErr result (λ _. A × B × (new ≡ old)) → P old new
-sent_if P keeps A B old policy packet (Ok departure) new sends is = sent P keeps old new policy packet (outcome_of_departure departure) sends
-sent_if P keeps A B old policy packet (Err e) new sends is = subst (P old) (sym is.2) (keeps.same old)
+pub sent_if : {E : Type 0} (P : Database → Database → Type 0) → Keeps P → (A B : Type 0) (old : Database) (policy : List Entry) (packet : Octets) (said : Departure → Outcome) (result : Result Departure E) (new : Database)
+    → IfOk result (λ departure. Sends old policy packet (said departure) new) → IfErr result (λ _. A × B × (new ≡ old)) → P old new
+sent_if P keeps A B old policy packet said (Ok departure) new sends is = sent P keeps old new policy packet (said departure) sends
+sent_if P keeps A B old policy packet said (Err e) new sends is = subst (P old) (sym is.2) (keeps.same old)

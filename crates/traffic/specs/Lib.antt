@@ -1,6 +1,7 @@
 pub mod Faults
 pub mod NextHeaders
 pub mod Outcomes
+pub mod Laying
 pub mod Verdicts
 pub mod Receiving
 pub mod Sending

@@ -5,6 +5,7 @@ ghost use Rattle.flows.specs.Treatments.{action_of, IsCarriedSo};
 ghost use Rattle.policy.specs.declared.entry.Action.TheVariants.{Protect};
 ghost use Rattle.policy.specs.Packets.{IsFlowOf};
 ghost use Rattle.sadb.specs.Database.{IsOutbound};
+ghost use Rattle.traffic.specs.Laying.{finished_outcome};
 ghost use Rattle.traffic.specs.Outcomes.{outcome_of_departure};
 ghost use Rattle.traffic.specs.Sending.{Departs, HasCarrier, IsToBeSealed, Protects, Sends};
 
@@ -68,7 +69,8 @@ pub fn send<'a>(
         Err(fault) => return Ok(Departure::Dropped(PacketFault::Inner(fault))),
     };
     let treatment = look_up(table, policy, &flow);
-    depart(alloc, table, treatment, &flow, packet)
+    let laid = depart(alloc, table, treatment, &flow, packet)?;
+    Ok(finish(table, laid))
 }
 
 /// Sends a packet as [`send`] does, and asks a memory what is done with its flow: at a flow that is
@@ -91,6 +93,26 @@ pub fn send_remembering<'a>(
         (λ _. IsToBeSealed table.old policy.now packet.now × (table.new ≡ table.old)) }
     ensures right { AllRight policy.now table.new.pairs flows.new }
 {
+    let laid = lay(alloc, table, flows, policy, packet)?;
+    Ok(finish(table, laid))
+}
+
+/// Sends a packet as [`send_remembering`] does, but an ESP packet has zeros in the place of its ICV:
+/// [`Table::finish`] writes that. So the ICVs of several packets can be computed side by side.
+pub fn lay<'a>(
+    alloc: Global,
+    table: &mut Table,
+    flows: &mut FlowMemory,
+    policy: &Policy,
+    packet: &'a [u8],
+) -> Result<Departure<'a>, AllocError>
+    requires { AllRight policy.now table.old.pairs flows.old }
+    ensures sent { IfOk result (λ departure. Sends table.old policy.now packet.now
+        (finished_outcome table.new.pairs (outcome_of_departure departure)) table.new) }
+    ensures memory { IfErr result
+        (λ _. IsToBeSealed table.old policy.now packet.now × (table.new ≡ table.old)) }
+    ensures right { AllRight policy.now table.new.pairs flows.new }
+{
     answers_stay_right();
     no_pair_comes();
     let flow = match inner(packet) {
@@ -101,7 +123,32 @@ pub fn send_remembering<'a>(
     depart(alloc, table, treatment, &flow, packet)
 }
 
-// Sends a packet as its flow is to be treated.
+// Writes the ICV into an ESP packet that was laid.
+fn finish<'a>(table: &Table, laid: Departure<'a>) -> Departure<'a>
+    ensures { outcome_of_departure result
+        ≡ finished_outcome table.now.pairs (outcome_of_departure laid.entry) }
+{
+    match laid {
+        Departure::Sealed {
+            child,
+            number,
+            octets,
+        } => {
+            let mut octets = octets.into_vec();
+            table.finish(child, number, &mut octets, None);
+            Departure::Sealed {
+                child,
+                number,
+                octets: Items::from_vec(octets),
+            }
+        }
+        Departure::Clear(packet) => Departure::Clear(packet),
+        Departure::Discarded => Departure::Discarded,
+        Departure::Dropped(fault) => Departure::Dropped(fault),
+    }
+}
+
+// Lays a packet as its flow is to be treated.
 fn depart<'a>(
     alloc: Global,
     table: &mut Table,
@@ -111,21 +158,21 @@ fn depart<'a>(
 ) -> Result<Departure<'a>, AllocError>
     requires flow { IsFlowOf packet.now flow.now }
     requires carried { IsCarriedSo table.old.pairs flow.now treatment }
-    ensures sent { IfOk result (λ departure.
-        Departs table.old treatment flow.now packet.now (outcome_of_departure departure) table.new) }
+    ensures sent { IfOk result (λ departure. Departs table.old treatment flow.now packet.now
+        (finished_outcome table.new.pairs (outcome_of_departure departure)) table.new) }
     ensures memory { IfErr result (λ _.
         (action_of treatment ≡ Protect) × HasCarrier table.old flow.now × (table.new ≡ table.old)) }
 {
     match treatment {
-        Treatment::Carried(child) => seal(alloc, table, child, flow, packet),
+        Treatment::Carried(child) => lay_by(alloc, table, child, flow, packet),
         Treatment::Uncarried => Ok(Departure::Dropped(PacketFault::UnknownAssociation)),
         Treatment::Bypassed => Ok(Departure::Clear(packet)),
         Treatment::Discarded => Ok(Departure::Discarded),
     }
 }
 
-// Seals a packet by the SA pair that carries its flow.
-fn seal<'a>(
+// Lays a packet by the SA pair that carries its flow.
+fn lay_by<'a>(
     alloc: Global,
     table: &mut Table,
     child: u32,
@@ -134,12 +181,12 @@ fn seal<'a>(
 ) -> Result<Departure<'a>, AllocError>
     requires flow { IsFlowOf packet.now flow.now }
     requires carrier { IsOutbound table.old.pairs flow.now child }
-    ensures sent { IfOk result (λ departure.
-        Protects table.old flow.now packet.now (outcome_of_departure departure) table.new) }
+    ensures sent { IfOk result (λ departure. Protects table.old flow.now packet.now
+        (finished_outcome table.new.pairs (outcome_of_departure departure)) table.new) }
     ensures memory { IfErr result (λ _. table.new ≡ table.old) }
 {
     let mut octets = Vec::with_capacity(alloc, packet.len() + OVERHEAD_LIMIT)?;
-    match table.seal(child, next_header_of(flow.family()), packet, &mut octets) {
+    match table.lay(child, next_header_of(flow.family()), packet, &mut octets) {
         Ok(number) => Ok(Departure::Sealed {
             child,
             number,

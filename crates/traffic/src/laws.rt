@@ -10,6 +10,7 @@ ghost use Rattle.policy.specs.declared.policy.Direction.TheVariants.{Outward, In
 ghost use Rattle.sadb.specs.Contents.{table_content};
 ghost use Rattle.sadb.specs.Database.{Database, IsReady, IsSoundTable, pair_at};
 ghost use Rattle.sadb.specs.Following.{Follows};
+ghost use Rattle.sadb.specs.Laying.{KeepsSenders};
 ghost use Rattle.sadb.specs.Mirrors.{Mirrors};
 ghost use Rattle.sadb.specs.declared.pair.Pair.{Pair};
 ghost use Rattle.traffic.specs.Admitting.{Admits};
@@ -92,6 +93,17 @@ pub fn no_pair_comes()
         → Sends old policy packet outcome new → NoneComes old.pairs new.pairs }
 {
     flows::laws::no_pair_comes();
+}
+
+/// By a packet no SA pair comes or goes, and none gets another outbound SA: what was laid before it is finished
+/// in the same way after it.
+pub fn senders_stay()
+    ensures received { (old new : Database) (packet : Octets) (outcome : Outcome)
+        → Receives old packet outcome new → KeepsSenders old.pairs new.pairs }
+    ensures sent { (old new : Database) (policy : List Entry) (packet : Octets) (outcome : Outcome)
+        → Sends old policy packet outcome new → KeepsSenders old.pairs new.pairs }
+{
+    sadb::laws::senders_stay();
 }
 
 /// A table that is ready to give an SPI without memory is so after a packet.

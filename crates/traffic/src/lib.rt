@@ -46,5 +46,5 @@ mod verdict;
 
 pub use admission::{Admission, admit};
 pub use arrival::{Arrival, question, receive, receive_ahead};
-pub use departure::{Departure, send, send_remembering};
+pub use departure::{Departure, lay, send, send_remembering};
 pub use fault::PacketFault;

@@ -1,27 +1,30 @@
-use Rattle.std.proofs.Common.{◌≡◌, ℕ, List, [], ◌∷◌, ◌++◌, length, map, sym, ◌∙◌, subst, arith}
-use Rattle.std.proofs.lemmas.List.{length-map}
+use Rattle.std.proofs.Common.{rules, ◌≡◌, ◌≤◌, ◌-◌, ℕ, List, [], ◌∷◌, ◌++◌, length, take, drop, map, refl, sym, ap, ◌∙◌, subst, arith}
+use Rattle.std.proofs.lemmas.List.{append-nil, length-map}
 use Rattle.effects.specs.Taking.{Meaning}
-use Rattle.gateway.specs.Groups.{TakesFirst}
 use Rattle.gateway.specs.Inputs.{Input, input_view}
+use Rattle.gateway.specs.Laying.{finished_from}
 use Rattle.gateway.specs.Runs.{Runs, StepsAs}
+use Rattle.gateway.specs.declared.output.Output.{Output}
 use Rattle.gateway.proofs.GroupLemmas.{value_for}
+use Rattle.gateway.proofs.LayingLemmas.{finish_behind, nothing_laid}
 use Rattle.gateway.proofs.RunLemmas.{next_in_image, pushed_after, run_more, take_next_image, within_image}
 use Rattle.gateway.proofs.running.run_with.Goals as goal
 
-pub returns-then-is_err-clause-first : goal.returns-then-is_err-clause-first
-returns-then-is_err-clause-first g c =
-    let i = c.loop-done.invariant in
-    record {
-      within = omega (arith, length-map c.args.inputs.now input_view);
-      outputs = i.answers;
-      appended = c.reserve.ensures.items ∙ i.appended;
-      runs = i.runs;
-    }
+pub loop-done-init : goal.loop-done-init
+loop-done-init g c = record {
+  answers = [];
+  appended = nothing_laid c.args.gateway.now.table.pairs c.args.outputs.now.items c.len-start.result (search rules) ∙ sym (append-nil c.args.outputs.now.items);
+  runs = refl;
+  length_now = search rules;
+  capacity = search rules;
+  begins = search rules;
+  within = search rules;
+}
 
-pub step_ahead-output-requires : goal.step_ahead-output-requires
-step_ahead-output-requires g c =
+pub take_next-start-requires-clause-ahead : goal.take_next-start-requires-clause-ahead
+take_next-start-requires-clause-ahead g c =
     let inputs = c.args.inputs.now in
-    value_for (map input_view inputs) c.args.ahead.now c.loop-done.done _ c.value_at-value.result c.requires (within_image input_view inputs c.loop-done.done c.loop-done-test.true)
+    value_for (map input_view inputs) c.args.ahead.now c.loop-done.done _ c.value_at-value.result c.requires.ahead (within_image input_view inputs c.loop-done.done c.loop-done-test.true)
     (next_in_image input_view inputs c.loop-done.done _ c.loop-done-test.true) c.value_at-value.ensures
 
 pub loop-done-preserved : goal.loop-done-preserved
@@ -38,19 +41,45 @@ loop-done-preserved g c =
       proof_of = g.C.Proof.proof_of caller;
       accepts = g.C.Proof.accepts caller;
     } in
-    let o = c.step_ahead-output.result in
+    let next = c.take_next-start.ensures.next in
+    let o = next.said in
+    let before = ap (finished_from c.loop-done.start c.loop-done.gateway.table.pairs) c.reserve.ensures.items ∙ i.appended in
     record {
       answers = i.answers ++ o ∷ [];
-      appended = pushed_after c.args.outputs.now.items i.answers c.reserve.new.self.items c.push_reserved.new.self.items o c.push_reserved.ensures.items (c.reserve.ensures.items ∙ i.appended);
-      runs = subst (λ (is : List Input). Runs (StepsAs meaning_of) is (i.answers ++ o ∷ []) c.args.gateway.now c.step_ahead-output.new.self) (sym (take_next_image input_view c.args.inputs.now c.loop-done.done _ c.loop-done-test.true))
-          (run_more (StepsAs meaning_of) c.args.gateway.now _ i.answers c.loop-done.gateway _ o c.step_ahead-output.new.self i.runs (record { sound = record { machine = c.invariants_hold.ensures.machine; table = c.invariants_hold.ensures.table; timely = c.invariants_hold.ensures.timely; reservations = c.invariants_hold.ensures.reservations }; steps = c.step_ahead-output.ensures }));
-      length_now = omega (arith, c.push_reserved.ensures.len, c.reserve.ensures.len, i.length_now);
-      capacity = omega (arith, i.capacity, c.reserve.ensures.capacity, c.push_reserved.ensures.capacity);
+      appended = pushed_after c.args.outputs.now.items i.answers (finished_from c.loop-done.start c.loop-done.gateway.table.pairs c.reserve.new.self.items) _ o next.appended before;
+      runs = subst (λ (is : List Input). Runs (StepsAs meaning_of) is (i.answers ++ o ∷ []) c.args.gateway.now c.take_next-start.new.gateway) (sym (take_next_image input_view c.args.inputs.now c.loop-done.done _ c.loop-done-test.true))
+          (run_more (StepsAs meaning_of) c.args.gateway.now _ i.answers c.loop-done.gateway _ o c.take_next-start.new.gateway i.runs next.steps);
+      length_now = omega (arith, c.take_next-start.ensures.size, c.reserve.ensures.len, i.length_now);
+      capacity = omega (arith, i.capacity, c.reserve.ensures.capacity, c.take_next-start.ensures.capacity);
+      begins = omega (arith, i.begins, c.take_next-start.ensures.begins);
+      within = c.take_next-start.ensures.ends;
+    }
+
+pub returns-then-is_err-clause-first : goal.returns-then-is_err-clause-first
+returns-then-is_err-clause-first g c =
+    let i = c.loop-done.invariant in
+    let pairs = c.loop-done.gateway.table.pairs in
+    let items = c.reserve.new.self.items in
+    let xs = c.deref_mut.result.now in
+    let len : c.reserve.new.self.len ≡ length items = sym c.deref_mut.ensures.len ∙ ap length c.deref_mut.ensures.value in
+    let within : c.loop-done.start ≤ length items = search rules in
+    let whole = finish_behind pairs c.loop-done.start c.reserve.new.self.len items xs c.finish.new.laid c.deref_mut.ensures.value len within c.finish.ensures in
+    record {
+      within = omega (arith, length-map c.args.inputs.now input_view);
+      outputs = i.answers;
+      appended = whole ∙ ap (finished_from c.loop-done.start pairs) c.reserve.ensures.items ∙ i.appended;
+      runs = i.runs;
     }
 
 pub returns-clause-first : goal.returns-clause-first
 returns-clause-first g c =
     let i = c.loop-done.invariant in
+    let pairs = c.loop-done.gateway.table.pairs in
+    let items = c.loop-done.outputs.items in
+    let xs = c.deref_mut-2.result.now in
+    let len : c.loop-done.outputs.len ≡ length items = sym c.deref_mut-2.ensures.len ∙ ap length c.deref_mut-2.ensures.value in
+    let within : c.loop-done.start ≤ length items = search rules in
+    let whole = finish_behind pairs c.loop-done.start c.loop-done.outputs.len items xs c.finish-2.new.laid c.deref_mut-2.ensures.value len within c.finish-2.ensures in
     let h = c.loop-done-test.false in
     let e = c.loop-done.auto.done-end in
     let meaning_of : _ → Meaning = λ caller. record {
@@ -65,10 +94,9 @@ returns-clause-first g c =
       accepts = g.C.Proof.accepts caller;
     } in
     let all : c.loop-done.done ≡ length c.args.inputs.now = omega arith in
-    subst (λ (k : ℕ). TakesFirst meaning_of k (map input_view c.args.inputs.now) c.args.gateway.now c.args.outputs.now.items c.loop-done.gateway c.loop-done.outputs.items) all
-    (record {
+    record {
       within = omega (arith, length-map c.args.inputs.now input_view);
       outputs = i.answers;
-      appended = i.appended;
-      runs = i.runs;
-    })
+      appended = whole ∙ i.appended;
+      runs = subst (λ (k : ℕ). Runs (StepsAs meaning_of) (take k (map input_view c.args.inputs.now)) i.answers c.args.gateway.now c.loop-done.gateway) all i.runs;
+    }

@@ -2,15 +2,16 @@ use Rattle.std.proofs.Common.{◌≡◌, ◌++◌, ◌+◌, ◌≤◌, List, map
 use Rattle.std.specs.Prelude.{vec_len}
 use Rattle.std.specs.Vec.{vec_capacity}
 use Rattle.gateway.specs.Inputs.{input_view}
+use Rattle.gateway.specs.Laying.{finished_from}
 use Rattle.gateway.specs.Runs.{Runs, StepsAs}
 use Rattle.gateway.specs.declared.output.Output.{Output}
 use Rattle.gateway.proofs.running.run_with.Given as goal
 
--- what came so far was taken, and its outputs appended
+-- what came so far was taken, and its outputs appended, once they are finished
 abbrev pub invariant-loop-done : goal.invariant-loop-done
 invariant-loop-done g l = record {
   answers : List Output;
-  appended : l.outputs.items ≡ l.fn.outputs.items ++ answers;
+  appended : finished_from l.start l.gateway.table.pairs l.outputs.items ≡ l.fn.outputs.items ++ answers;
   runs : Runs
       (StepsAs (λ caller. record {
         cipher = g.C.Sealer.cipher;
@@ -26,4 +27,6 @@ invariant-loop-done g l = record {
       (take l.done (map input_view l.inputs)) answers l.fn.gateway l.gateway;
   length_now : vec_len l.outputs ≡ vec_len l.fn.outputs + l.done;
   capacity : vec_capacity l.fn.outputs ≤ vec_capacity l.outputs;
+  begins : vec_len l.fn.outputs ≤ l.start;
+  within : l.start ≤ vec_len l.outputs;
 }

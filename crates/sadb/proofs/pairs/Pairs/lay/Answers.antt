@@ -6,7 +6,8 @@ use Rattle.slab.specs.Slab.{get}
 use Rattle.std.proofs.lemmas.Result.{MatchResult-weaker}
 use Rattle.sadb.specs.Storage.{key_of, PairsBySerial}
 use Rattle.sadb.proofs.PairsLemmas.{key_given, pair_given, get_at_key, written_by_serial, written_shown, written_same, written_len, same_by_serial}
-use Rattle.sadb.proofs.pairs.Pairs.seal.Goals as goal
+use Rattle.sadb.proofs.SenderLemmas.{laid_at, not_shorter}
+use Rattle.sadb.proofs.pairs.Pairs.lay.Goals as goal
 
 pub unwrap-key-requires : goal.unwrap-key-requires
 unwrap-key-requires c =
@@ -29,8 +30,16 @@ returns-clause-sealed c =
     let at : key_of c.self.inside.keys.items c.args.serial ≡ Some c.unwrap-key.result = ap (λ ks. key_of ks c.args.serial) (sym c.deref.ensures.value) ∙ sym c.key.ensures ∙ c.unwrap-key.ensures in
     let here : get c.self.inside.slab c.unwrap-key.result ≡ Some c.index_mut.result.now = c.index_mut.ensures.value in
     let there : map.get c.args.self.now.pairs c.args.serial ≡ Some c.index_mut.result.now = get_at_key c.self.inside.keys.items c.self.inside.slab c.args.self.now.pairs c.args.serial (ap (λ (s : PairsBySerial). s.pairs) c.self.view_is) c.unwrap-key.result at ∙ here in
-    MatchResult-weaker c.seal.result c.seal.ensures.sealed
-    (λ number sealed. record { pair = c.index_mut.result.now; there = there; outbound = c.seal.new.self; sealed = sealed; changed = written_shown c.self.inside.keys.items c.self.inside.slab c.args.self.now.pairs c.args.serial (ap (λ (s : PairsBySerial). s.pairs) c.self.view_is) c.unwrap-key.result c.index_mut.result.now _ c.self.invariant at here })
+    let changed = written_shown c.self.inside.keys.items c.self.inside.slab c.args.self.now.pairs c.args.serial (ap (λ (s : PairsBySerial). s.pairs) c.self.view_is) c.unwrap-key.result c.index_mut.result.now _ c.self.invariant at here in
+    MatchResult-weaker c.lay.result c.lay.ensures.sealed
+    (λ number sealed. record {
+      pair = c.index_mut.result.now;
+      there = there;
+      outbound = c.lay.new.self;
+      sealed = laid_at c.args.self.now.pairs _ c.args.serial c.args.next number (length c.args.out.now.items) c.index_mut.result.now c.lay.new.self c.args.payload.now c.args.out.now.items
+          c.lay.new.out.items changed sealed;
+      changed = changed;
+    })
     (λ fault nothing. nothing)
 
 pub returns-clause-refused : goal.returns-clause-refused
@@ -38,7 +47,7 @@ returns-clause-refused c =
     let at : key_of c.self.inside.keys.items c.args.serial ≡ Some c.unwrap-key.result = ap (λ ks. key_of ks c.args.serial) (sym c.deref.ensures.value) ∙ sym c.key.ensures ∙ c.unwrap-key.ensures in
     let here : get c.self.inside.slab c.unwrap-key.result ≡ Some c.index_mut.result.now = c.index_mut.ensures.value in
     let there : map.get c.args.self.now.pairs c.args.serial ≡ Some c.index_mut.result.now = get_at_key c.self.inside.keys.items c.self.inside.slab c.args.self.now.pairs c.args.serial (ap (λ (s : PairsBySerial). s.pairs) c.self.view_is) c.unwrap-key.result at ∙ here in
-    MatchResult-weaker c.seal.result c.seal.ensures.refused
+    MatchResult-weaker c.lay.result c.lay.ensures.refused
     (λ number nothing. nothing)
     (λ fault refused. (
       record { pair = c.index_mut.result.now; there = there; refused = refused.0 },
@@ -48,3 +57,7 @@ returns-clause-refused c =
           ∙ ap (λ (s : PairsBySerial). s.room) c.self.view_is),
       refused.2,
     ))
+
+pub returns-clause-behind : goal.returns-clause-behind
+returns-clause-behind c =
+    not_shorter c.lay.result c.index_mut.result.now.outbound c.args.next c.args.payload.now c.args.out.now.items c.lay.new.self c.lay.new.out.items c.lay.ensures.laid c.lay.ensures.refused
