@@ -26,6 +26,7 @@ RECORDS = [
     ("SukEntry", "suk_entry", "Entry", "EntryRecord"),
     ("SukFresh", "suk_fresh", "Fresh", "FreshRecord"),
     ("SukOutput", "suk_output", "Output", "OutputRecord"),
+    ("SukPlace", "suk_place", "Place", "PlaceRecord"),
     ("SukMessage", "suk_message_told", "Message", "MessageRecord"),
     ("SukChild", "suk_child", "Child", "ChildRecord"),
     ("SukSelector", "suk_selector_told", "Selector", "SelectorRecord"),

@@ -1,4 +1,4 @@
-/* Two gateways in one program: they come to an association in memory, a packet goes through, and a repeat of it is refused.
+/* Two gateways in one program: they come to an IKE SA in memory, a packet goes through, and a replay of it is refused.
  *
  *   cc example.c $(pkg-config --cflags --libs sukperin) -o example && ./example */
 #include <stdio.h>
@@ -101,7 +101,7 @@ int main(void) {
     bool same = output.kind == SUK_UP && output.length == sizeof packet && memcmp(sealed + output.offset, packet, sizeof packet) == 0;
     printf("up %d: number %u\n", same, (unsigned)output.number);
     must(sukperin_esp(&b.gateway, sealed, length, &output), "esp");
-    printf("the repeat: E%u, %s\n", (unsigned)output.code, sukperin_text(output.code));
+    printf("the replay: E%u, %s\n", (unsigned)output.code, sukperin_text(output.code));
 
     sukperin_end(&a.gateway);
     sukperin_end(&b.gateway);

@@ -1,4 +1,4 @@
-/* Calls in any order, by a seed: two gateways and an ESP association, given what the other end sent, damaged or made up.
+/* Calls in any order, by a seed: two gateways and an ESP SA, given what the other end sent, damaged or made up.
  *
  *   cc -g -fsanitize=address,undefined fuzz.c -lsukperin -o fuzz && ./fuzz [FIRST SEED] [SEEDS] [CALLS]
  *
@@ -162,16 +162,24 @@ static void look_at(int end, uint32_t code, const suk_output *output, size_t pac
     }
 }
 
-static void give_packet_outward(int end) {
-    suk_output output;
-    uint8_t packet[64] = {0x45, 0, 0, 64};
+/* A packet on its way out, and its length. */
+static size_t draw_packet(uint8_t packet[64]) {
+    memset(packet, 0, 64);
+    packet[0] = 0x45;
+    packet[3] = 64;
     packet[9] = (uint8_t)below(20);
     packet[12] = packet[16] = 10;
     packet[13] = (uint8_t)below(6);
     packet[17] = (uint8_t)below(6);
     if (below(10) == 0)
         packet[below(20)] ^= (uint8_t)(1 << below(8));
-    size_t length = below(20) == 0 ? below(65) : 64, room_length = SUK_ROOM(length) - (below(10) == 0);
+    return below(20) == 0 ? below(65) : 64;
+}
+
+static void give_packet_outward(int end) {
+    suk_output output;
+    uint8_t packet[64];
+    size_t length = draw_packet(packet), room_length = SUK_ROOM(length) - (below(10) == 0);
     uint8_t *copy = copy_of(packet, length), *room = malloc(room_length);
     if (room == NULL)
         exit(2);
@@ -182,6 +190,130 @@ static void give_packet_outward(int end) {
         look_at(end, code, &output, length, room, room_length);
     free(copy);
     free(room);
+}
+
+/* ---- Lists ---- */
+
+enum { LISTED = 80 };
+static suk_place places[LISTED];
+static uint64_t listed, alone; /* packets given in lists, and those refused alone */
+
+/* Another place than the one that it has, mostly outside a buffer of so many octets. */
+static suk_place misplaced(size_t length) {
+    static const uint64_t far[3] = {UINT64_MAX, UINT64_MAX / 2 + 1, 0};
+    suk_place place = {far[below(3)], far[below(3)]};
+    if (below(2) == 0)
+        place.offset = below((uint32_t)length + 2);
+    if (below(2) == 0)
+        place.length = below((uint32_t)length + 2);
+    return place;
+}
+
+static bool is_there(suk_place place, size_t length) { return place.offset <= length && place.length <= length - place.offset; }
+
+/* A copy of the places, and records, in blocks of just their length; sometimes a record is missing. */
+static suk_place *copy_of_places(size_t count) { return (suk_place *)(void *)copy_of((const uint8_t *)places, count * sizeof(suk_place)); }
+static suk_output *records_for(size_t count, size_t *records) {
+    *records = count > 0 && below(20) == 0 ? count - 1 : count + (below(4) == 0);
+    suk_output *outputs = malloc(*records * sizeof(suk_output) + 1);
+    if (outputs == NULL)
+        exit(2);
+    return outputs;
+}
+
+/* What a list answered as a whole; whether its records are filled. */
+static bool is_taken(int end, uint32_t code, size_t count, size_t records) {
+    bool live = gateways[end].private_live;
+    REQUIRE(code == (uint32_t)(!live ? SUK_E_NO_END : records < count ? SUK_E_ROOM : SUK_OK));
+    return code == SUK_OK;
+}
+
+static bool is_refused_by(const suk_output *output, uint32_t code) {
+    suk_output wanted;
+    memset(&wanted, 0, sizeof wanted);
+    wanted.kind = SUK_REFUSED;
+    wanted.code = code;
+    return memcmp(output, &wanted, sizeof wanted) == 0;
+}
+
+/* Up to 80 of what the other end sent, as one list. */
+static void give_list(int end) {
+    static uint8_t octets[LISTED * LONGEST];
+    size_t count = below(8) == 0 ? below(LISTED + 1) : below(6), length = 0, records;
+    for (size_t i = 0; i < count; i++) {
+        size_t part;
+        uint8_t *given = something_for(end, true, &part);
+        memcpy(octets + length, given, part);
+        free(given);
+        places[i] = (suk_place){length, part};
+        length += part;
+    }
+    for (size_t i = 0; i < count; i++)
+        if (below(20) == 0)
+            places[i] = misplaced(length);
+    uint8_t *copy = copy_of(octets, length);
+    suk_place *given = copy_of_places(count);
+    suk_output *outputs = records_for(count, &records);
+    uint32_t code = sukperin_esp_all(&gateways[end], copy, length, given, count, outputs, records);
+    if (is_taken(end, code, count, records)) {
+        for (size_t i = 0; i < count; i++) {
+            listed++;
+            if (is_there(places[i], length)) {
+                look_at(end, code, &outputs[i], places[i].length, NULL, 0);
+            } else {
+                REQUIRE(is_refused_by(&outputs[i], SUK_E_PLACE));
+                alone++;
+            }
+        }
+    }
+    free(copy);
+    free(given);
+    free(outputs);
+}
+
+/* Up to 80 packets on their way out, as one list; sometimes the room is too short for the last ones. */
+static void give_list_outward(int end) {
+    static uint8_t octets[LISTED * 64];
+    size_t count = below(8) == 0 ? below(LISTED + 1) : below(6), length = 0, needed = 1, used = 0, records;
+    for (size_t i = 0; i < count; i++) {
+        uint8_t packet[64];
+        size_t part = draw_packet(packet);
+        memcpy(octets + length, packet, part);
+        places[i] = (suk_place){length, part};
+        length += part;
+        needed += SUK_ROOM(part);
+    }
+    for (size_t i = 0; i < count; i++)
+        if (below(20) == 0)
+            places[i] = misplaced(length);
+    size_t room_length = below(6) == 0 ? 1 + below((uint32_t)needed) : needed;
+    uint8_t *copy = copy_of(octets, length), *room = malloc(room_length);
+    suk_place *given = copy_of_places(count);
+    suk_output *outputs = records_for(count, &records);
+    if (room == NULL)
+        exit(2);
+    uint32_t code = sukperin_outward_all(&gateways[end], copy, length, given, count, room, room_length, outputs, records);
+    if (is_taken(end, code, count, records)) {
+        for (size_t i = 0; i < count; i++) {
+            listed++;
+            if (!is_there(places[i], length)) {
+                REQUIRE(is_refused_by(&outputs[i], SUK_E_PLACE));
+                alone++;
+            } else if (room_length - used < SUK_ROOM(places[i].length)) {
+                REQUIRE(is_refused_by(&outputs[i], SUK_E_ROOM));
+                alone++;
+            } else {
+                look_at(end, code, &outputs[i], places[i].length, room, room_length);
+                REQUIRE(outputs[i].kind == SUK_SEALED ? outputs[i].offset == used : outputs[i].offset == 0);
+                if (outputs[i].kind == SUK_SEALED)
+                    used += outputs[i].length;
+            }
+        }
+    }
+    free(copy);
+    free(room);
+    free(given);
+    free(outputs);
 }
 
 static void look_at_tables(int end) {
@@ -214,7 +346,7 @@ static void call_a_gateway(void) {
     uint8_t *given = NULL;
     const uint8_t from[4] = {192, 0, 2, (uint8_t)(2 - end)};
     uint32_t code;
-    switch (below(16)) {
+    switch (below(18)) {
         case 0:
             if (below(40) == 0)
                 sukperin_end(gateway);
@@ -242,6 +374,8 @@ static void call_a_gateway(void) {
             given = something_for(end, true, &length);
             code = sukperin_inward(gateway, given, length, &output);
             break;
+        case 13: give_list(end); return;
+        case 14: give_list_outward(end); return;
         default:
             given = something_for(end, false, &length);
             code = sukperin_ike(gateway, from, given, length, &octets, &output);
@@ -251,7 +385,7 @@ static void call_a_gateway(void) {
     free(given);
 }
 
-/* ---- One ESP association: end 0 sends, end 1 receives ---- */
+/* ---- One ESP SA: end 0 sends, end 1 receives ---- */
 
 static suk_association ends[2];
 static datagram packets[KEPT];
@@ -326,7 +460,8 @@ int main(int count, char **words) {
             sukperin_end_association(&ends[end]);
         }
     }
-    printf("packets opened %llu; outputs by kind:", (unsigned long long)opened_packets);
+    printf("packets opened %llu, listed %llu, refused alone %llu; outputs by kind:", (unsigned long long)opened_packets,
+           (unsigned long long)listed, (unsigned long long)alone);
     for (int kind = SUK_REPLY; kind <= SUK_REFUSED; kind++) printf(" %llu", (unsigned long long)seen[kind]);
     printf("\n%llu seeds of %llu calls: no promise broken\n", (unsigned long long)seeds, (unsigned long long)limit);
     return 0;

@@ -34,21 +34,22 @@ extern "C" {
 
 enum {
     SUK_OK = 0,
-    SUK_E_MEMORY = 20,  /* E20: no memory. The input may be given again */
-    SUK_E_NO_END = 101, /* the handle leads to none, or to what this call isn't for */
-    SUK_E_IN_USE = 102, /* the handle leads to something already: end it first */
-    SUK_E_ROOM = 103,   /* the room is shorter than what may have to be written */
-    SUK_E_CONFIG = 104, /* an identity hasn't 1 to 256 octets, the window isn't 1 to 16, or the blocks no power of two from 2 to 128 */
-    SUK_E_NULL = 105,   /* of the sukperin_* functions alone: a null pointer, or a length above PTRDIFF_MAX */
-    SUK_E_POLICY = 106, /* an entry of the policy is at fault */
-    SUK_E_SPI = 107,    /* an SPI below 256, or a first SPI above 2^32 - 65,536 */
-    SUK_E_NOTHING = 108 /* there is no such thing to tell */
+    SUK_E_MEMORY = 20,   /* E20: out of memory. The input may be given again */
+    SUK_E_NO_END = 101,  /* the handle leads to none, or to what this call isn't for */
+    SUK_E_IN_USE = 102,  /* the handle leads to something already: end it first */
+    SUK_E_ROOM = 103,    /* the room is shorter than what may have to be written */
+    SUK_E_CONFIG = 104,  /* an identity hasn't 1 to 256 octets, the window isn't 1 to 16, or the blocks no power of two from 2 to 128 */
+    SUK_E_NULL = 105,    /* of the sukperin_* functions alone: a null pointer, or a length above PTRDIFF_MAX */
+    SUK_E_POLICY = 106,  /* an entry of the policy is at fault */
+    SUK_E_SPI = 107,     /* an SPI below 256, or a first SPI above 2^32 - 65,536 */
+    SUK_E_NOTHING = 108, /* there is no such thing to tell */
+    SUK_E_PLACE = 109    /* a packet's place isn't in the buffer */
 };
 
 /* What a packet needs more than its own octets when it is sealed: 8 before it, up to 5 and 16 behind it. */
 #define SUK_ROOM(length) ((length) + 29)
 
-/* ---- One ESP association under a key that is given (RFC 4303): for tests, and to judge packets of another stack ---- */
+/* ---- One ESP SA under a key that is given (RFC 4303): for tests, and to judge packets of another stack ---- */
 
 /* One end of it. All zeros is none. */
 typedef struct {
@@ -81,8 +82,8 @@ uint32_t suk_receiver(suk_association *, uint32_t spi, const uint8_t key[32], ui
  * 101, 103, 12 (the numbers are exhausted), 13 (more than 16,384 octets), 20. */
 uint32_t suk_seal(suk_association *, uint8_t next, const uint8_t *payload, size_t, uint8_t *room, size_t, suk_sealed *);
 
-/* Judges a packet, from its SPI on, and takes its number. 101, 28 (another SPI), 14 (its length), 17, 15, 16 (its number), 18 (its check
- * value), 19 (its padding; the number stays taken). */
+/* Judges a packet, from its SPI on, and takes its number. 101, 28 (another SPI), 14 (its length), 17, 15, 16 (its number), 18 (its ICV),
+ * 19 (its padding; the number stays taken). */
 uint32_t suk_open(suk_association *, const uint8_t *packet, size_t, suk_opened *);
 
 /* Frees it, if there is one; the handle is all zeros afterwards. Its key isn't wiped from memory. */
@@ -121,7 +122,7 @@ typedef struct {
     uint8_t local_start[16], local_end[16], remote_start[16], remote_end[16]; /* an address of IPv4: the first four octets */
 } suk_entry;
 
-/* What chance gives to one input. */
+/* The randomness of one input. */
 typedef struct {
     uint64_t spi;
     uint8_t nonce[32], secret[32], seal[16];
@@ -130,14 +131,14 @@ typedef struct {
 /* What comes of an input (docs/OPERATING.md says what the host does then). */
 enum {
     SUK_REPLY = 1, /* one message, the answer to a request: to where it came from. ike where it is under keys, child it made, closed */
-    SUK_REPEAT,    /* one message, the answer of before */
+    SUK_REPEAT,    /* one message, the answer of before to a retransmission */
     SUK_REQUEST,   /* one message to the peer. ike */
     SUK_COUNTED,   /* a response was counted. ike; child that it made; closed */
     SUK_TICKED,    /* messages that go out again, and closings */
-    SUK_DONE,      /* an order was carried out */
+    SUK_DONE,      /* a command was carried out */
     SUK_UP,        /* a packet goes up, inside: a part of the packet that came. child, number */
     SUK_DUMMY,     /* an ESP packet carried nothing. child, number */
-    SUK_SEALED,    /* an ESP packet to the peer, at the beginning of the room. child, number */
+    SUK_SEALED,    /* an ESP packet to the peer, in the room. child, number */
     SUK_CLEAR,     /* the packet goes on as it is */
     SUK_DISCARDED, /* the packet doesn't go on, by the policy */
     SUK_DROPPED,   /* what came is dropped: code is the refusal's number */
@@ -148,13 +149,18 @@ enum {
 typedef struct {
     uint32_t kind, code;
     uint32_t ike, child, closed;
-    uint32_t keyed;    /* the association whose keys the step made */
+    uint32_t keyed;    /* the IKE SA whose keys the step made */
     uint64_t messages; /* how many there are to be taken by suk_message */
-    uint64_t closings; /* how many associations suk_closing tells */
+    uint64_t closings; /* how many IKE SAs suk_closing tells */
     uint64_t number;   /* the sequence number of an ESP packet */
-    uint64_t offset;   /* where in the packet that came begins what goes up */
+    uint64_t offset;   /* where what goes up begins in the packet that came; where what was sealed begins in the room (0 of suk_outward) */
     uint64_t length;   /* of what goes up, of what was sealed, of what goes on as it is, or of one message */
 } suk_output;
+
+/* A packet's place in a buffer. */
+typedef struct {
+    uint64_t offset, length;
+} suk_place;
 
 typedef struct {
     uint64_t length;
@@ -162,7 +168,7 @@ typedef struct {
     uint32_t reserved;
 } suk_message_told;
 
-/* A child: one inbound and one outbound association of ESP. */
+/* A Child SA: one inbound and one outbound SA of ESP. */
 typedef struct {
     uint32_t serial, ike;
     uint32_t spi_in, spi_out;
@@ -194,7 +200,7 @@ typedef struct {
 /* The longest message has 3000 octets. */
 #define SUK_MESSAGE_ROOM 3000
 
-/* A gateway of these terms, identities, secrets and entries, with no association. An empty secret of the peer's proves nothing.
+/* A gateway of these terms, identities, secrets and entries, with no IKE SA. An empty secret of the peer's proves nothing.
  * 102, 107, 104, 106, 20. */
 uint32_t suk_new(suk_gateway *, const suk_terms *, const uint8_t *own_id, size_t, const uint8_t *peer_id, size_t, const uint8_t *own_psk,
                  size_t, const uint8_t *peer_psk, size_t, const suk_entry *, size_t);
@@ -202,25 +208,26 @@ uint32_t suk_new(suk_gateway *, const suk_terms *, const uint8_t *own_id, size_t
 /* Frees it, if there is one; the handle is all zeros afterwards. Keys and secrets aren't wiped from memory. */
 void suk_end(suk_gateway *);
 
-/* All inputs: 101. Else 0, and the record tells what came of it; want of memory is SUK_REFUSED too. What the input before left to be
+/* All inputs: 101. Else 0, and the record tells what came of it; out of memory is SUK_REFUSED too. What the input before left to be
  * taken is gone then. */
 
 /* A datagram of IKE from this IPv4 address, without its UDP header and without the four zeros of port 4500. */
 uint32_t suk_ike(suk_gateway *, const uint8_t from[4], const uint8_t *datagram, size_t, const suk_fresh *, suk_output *);
 
-/* The order to ask for a child by an entry, its place counted from 0: with a new association where ike is 0, else a further one of it. */
+/* The command to ask for a Child SA by an entry, its place counted from 0: with a new IKE SA where ike is 0, else an additional one of
+ * that IKE SA. */
 uint32_t suk_start(suk_gateway *, uint32_t ike, uint32_t entry, const suk_fresh *, suk_output *);
 
-/* The order to ask the peer of an association whether it is there. */
+/* The command to ask the peer of an IKE SA whether it is there. */
 uint32_t suk_probe(suk_gateway *, uint32_t ike, const suk_fresh *, suk_output *);
 
-/* The order to delete a child. */
+/* The command to delete a Child SA. */
 uint32_t suk_delete_child(suk_gateway *, uint32_t child, const suk_fresh *, suk_output *);
 
-/* The order to delete an association with all its children. */
+/* The command to delete an IKE SA with all its Child SAs. */
 uint32_t suk_delete_ike(suk_gateway *, uint32_t ike, const suk_fresh *, suk_output *);
 
-/* The order to make cookies under another secret. The one before stays good. */
+/* The command to make cookies under another secret. The one before stays good. */
 uint32_t suk_secret(suk_gateway *, const uint8_t secret[32], suk_output *);
 
 /* The time. An earlier moment counts as the greatest so far. */
@@ -236,6 +243,18 @@ uint32_t suk_esp(suk_gateway *, const uint8_t *packet, size_t, suk_output *);
  * shorter than SUK_ROOM(packet). */
 uint32_t suk_outward(suk_gateway *, const uint8_t *packet, size_t, uint8_t *room, size_t, suk_output *);
 
+/* ESP packets that came, each in its place in one buffer: as so many calls of suk_esp in their order, with a record for each. Up to 64 at
+ * a time have their ICVs computed side by side. 101; 103, and nothing is done, where there are fewer records than places. A packet whose
+ * place isn't in the buffer is refused alone: SUK_REFUSED, code 109. A record's offset counts from its own packet's beginning. */
+uint32_t suk_esp_all(suk_gateway *, const uint8_t *octets, size_t, const suk_place *, size_t, suk_output *, size_t);
+
+/* Whole IP packets on their way out, each in its place in one buffer: as so many calls of suk_outward in their order. Sealed packets lie
+ * one behind the other in the room from its beginning: a record's offset and length say where. A packet for which fewer than
+ * SUK_ROOM(length) octets of the room are left is refused alone: SUK_REFUSED, code 103; one whose place isn't in the buffer with code 109.
+ * 101; 103, and nothing is done, where there are fewer records than places. */
+uint32_t suk_outward_all(suk_gateway *, const uint8_t *octets, size_t, const suk_place *, size_t, uint8_t *room, size_t, suk_output *,
+                         size_t);
+
 /* A whole IP packet that came in unprotected. */
 uint32_t suk_inward(suk_gateway *, const uint8_t *packet, size_t, suk_output *);
 
@@ -245,16 +264,16 @@ uint32_t suk_inward(suk_gateway *, const uint8_t *packet, size_t, suk_output *);
  * told all the same. */
 uint32_t suk_message(suk_gateway *, uint64_t place, uint8_t *room, size_t, suk_message_told *);
 
-/* The association in this place of those that the last suk_tick closed. 101, 108. */
+/* The IKE SA in this place of those that the last suk_tick closed. 101, 108. */
 uint32_t suk_closing(suk_gateway *, uint64_t place, uint32_t *ike);
 
-/* The child with the least serial above this one. 101, 108 where there is none. */
+/* The Child SA with the least serial above this one. 101, 108 where there is none. */
 uint32_t suk_child_after(suk_gateway *, uint32_t serial, suk_child *);
 
-/* A selector of a child, on this side or the remote one, its place counted from 0. 101, 108. */
+/* A selector of a Child SA, on this side or the remote one, its place counted from 0. 101, 108. */
 uint32_t suk_selector(suk_gateway *, uint32_t child, uint8_t remote, uint64_t place, suk_selector_told *);
 
-/* The IKE associations that are held, by rising serial. 101; 103 where the room has too few records, and then their count is told all
+/* The IKE SAs that are held, by rising serial. 101; 103 where the room has too few records, and then their count is told all
  * the same. */
 uint32_t suk_associations(suk_gateway *, suk_ike_association *, size_t, uint64_t *count);
 
@@ -361,6 +380,25 @@ static inline uint32_t sukperin_outward(suk_gateway *gateway, const uint8_t *pac
     return suk_outward(gateway, suk_some(packet), length, room, room_length, output);
 }
 
+static inline uint32_t sukperin_esp_all(suk_gateway *gateway, const uint8_t *octets, size_t length, const suk_place *places, size_t count,
+                                        suk_output *outputs, size_t records) {
+    static const suk_place no_place = {0, 0};
+    if (gateway == NULL || suk_is_bad(octets, length) || suk_is_bad(places, count) || count > PTRDIFF_MAX / sizeof(suk_place) ||
+        outputs == NULL || records > PTRDIFF_MAX / sizeof(suk_output))
+        return SUK_E_NULL;
+    return suk_esp_all(gateway, suk_some(octets), length, places != NULL ? places : &no_place, count, outputs, records);
+}
+
+static inline uint32_t sukperin_outward_all(suk_gateway *gateway, const uint8_t *octets, size_t length, const suk_place *places,
+                                            size_t count, uint8_t *room, size_t room_length, suk_output *outputs, size_t records) {
+    static const suk_place no_place = {0, 0};
+    if (gateway == NULL || suk_is_bad(octets, length) || suk_is_bad(places, count) || count > PTRDIFF_MAX / sizeof(suk_place) ||
+        room == NULL || suk_is_bad(room, room_length) || outputs == NULL || records > PTRDIFF_MAX / sizeof(suk_output))
+        return SUK_E_NULL;
+    return suk_outward_all(gateway, suk_some(octets), length, places != NULL ? places : &no_place, count, room, room_length, outputs,
+                           records);
+}
+
 static inline uint32_t sukperin_inward(suk_gateway *gateway, const uint8_t *packet, size_t length, suk_output *output) {
     if (gateway == NULL || suk_is_bad(packet, length) || output == NULL)
         return SUK_E_NULL;
@@ -440,7 +478,7 @@ static inline const char *sukperin_text(uint32_t code) {
         case 7: return "the nonce has a wrong length";
         case 8: return "a field is malformed";
         case 9: return "the message is too long";
-        case 10: return "no memory";
+        case 10: return "out of memory";
         case 11: return "more than 8160 octets of key material";
         case 12: return "the sequence numbers are exhausted";
         case 13: return "the payload has more than 16384 octets";
@@ -448,24 +486,24 @@ static inline const char *sukperin_text(uint32_t code) {
         case 15: return "the number lies below the replay window";
         case 16: return "the number was taken already";
         case 17: return "the packet has no sequence number";
-        case 18: return "the check value is wrong";
+        case 18: return "the ICV is wrong";
         case 19: return "the padding is wrong";
-        case 20: return "no memory";
+        case 20: return "out of memory";
         case 21: return "not a whole IP packet";
         case 22: return "a fragment of a packet";
         case 23: return "no entry that protects, or outside the selectors";
-        case 24: return "no memory for the selectors";
-        case 25: return "the table is full, or 128 IKE associations are held";
+        case 24: return "out of memory for the selectors";
+        case 25: return "the table is full, or 128 IKE SAs are held";
         case 26: return "the inbound SPIs are spent";
-        case 27: return "no memory for the table";
-        case 28: return "no such association";
+        case 27: return "out of memory for the table";
+        case 28: return "no such IKE SA, Child SA or SPI";
         case 29: return "the message doesn't open";
         case 30: return "the request was answered, and its reply is kept no more";
         case 31: return "the number lies outside the window";
-        case 32: return "the association is in another phase, or this message is not due to it";
+        case 32: return "the IKE SA is in another phase, or this message is not due to it";
         case 33: return "the message claims the role of this end";
-        case 34: return "too many associations are half open or held";
-        case 35: return "the peer's window is full, or the association is being deleted";
+        case 34: return "too many IKE SAs are half open or held";
+        case 35: return "the peer's window is full, or the IKE SA is being deleted";
         case 36: return "the numbers are spent";
         case 37: return "the fresh SPI is zero or in use";
         case 38: return "no room for an answer";
@@ -478,6 +516,7 @@ static inline const char *sukperin_text(uint32_t code) {
         case 106: return "an entry of the policy is at fault";
         case 107: return "an SPI is out of its range";
         case 108: return "there is no such thing to tell";
+        case 109: return "a packet's place isn't in the buffer";
         default: return "an unknown code";
     }
 }

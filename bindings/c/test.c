@@ -1,6 +1,6 @@
 /* Each call of sukperin.h, and each refusal that can be brought about. The last line is 'N passed, M failed'.
- * Want of memory is tried where it is built with -DSTARVES -Wl,--wrap=malloc,--wrap=realloc against the static library.
- * What chance gives comes of a counter here, so that each run is the same: never do this outside a test. */
+ * Running out of memory is tried where it is built with -DSTARVES -Wl,--wrap=malloc,--wrap=realloc against the static library.
+ * Randomness comes of a counter here, so that each run is the same: never do this outside a test. */
 #include <stdio.h>
 #include <stdlib.h>
 #include <string.h>
@@ -19,7 +19,7 @@ static void expect_at(int line, const char *what, uint64_t told, uint64_t wanted
 
 #define EXPECT(told, wanted) expect_at(__LINE__, #told, (uint64_t)(told), (uint64_t)(wanted))
 
-/* ---- One ESP association ---- */
+/* ---- One ESP SA ---- */
 
 static const uint8_t KEY[32] = {0,  1,  2,  3,  4,  5,  6,  7,  8,  9,  10, 11, 12, 13, 14, 15,
                                 16, 17, 18, 19, 20, 21, 22, 23, 24, 25, 26, 27, 28, 29, 30, 31};
@@ -193,7 +193,7 @@ static void associations_want_memory(void) {
 }
 #endif
 
-/* With extension the high half of a number isn't sent, and stands under the check value. It is the one with which the number lies in the
+/* With extension the high half of a number isn't sent, and stands under the ICV. It is the one with which the number lies in the
  * 2^32 numbers from the window's lower edge on, so a new receiver takes no number just below 2^32. */
 static void extended_numbers(void) {
     suk_association sender = SUK_NONE, end = SUK_NONE, plain = SUK_NONE;
@@ -351,6 +351,54 @@ static suk_output pass_starving(host *from, host *to) {
     return output;
 }
 
+/* Each allocation of a list fails once. A packet that is refused then has changed nothing: it is sealed, and taken, when it comes again. */
+static void lists_want_memory(host *a, host *b, const uint8_t packet[20]) {
+    enum { COUNT = 66 };
+    static uint8_t octets[COUNT * 20], room[COUNT * SUK_ROOM(20)];
+    static suk_place places[COUNT];
+    static suk_output outputs[COUNT], ups[COUNT];
+    for (size_t i = 0; i < COUNT; i++) {
+        memcpy(octets + i * 20, packet, 20);
+        places[i] = (suk_place){i * 20, 20};
+    }
+    unsigned long nth = 0;
+    size_t refused;
+    do {
+        suk_place sealed[COUNT];
+        size_t count = 0;
+        refused = 0;
+        failing = ++nth;
+        uint32_t code = sukperin_outward_all(&a->gateway, octets, sizeof octets, places, COUNT, room, sizeof room, outputs, COUNT);
+        failing = 0;
+        EXPECT(code, SUK_OK);
+        for (size_t i = 0; i < COUNT; i++) {
+            if (outputs[i].kind == SUK_SEALED)
+                sealed[count++] = (suk_place){outputs[i].offset, outputs[i].length};
+            else
+                EXPECT(wants_memory(&outputs[i]), true);
+        }
+        refused += COUNT - count;
+        bool taken[COUNT] = {false};
+        size_t left = count;
+        for (unsigned long failure = 1; left > 0; failure++) {
+            failing = failure;
+            code = sukperin_esp_all(&b->gateway, room, sizeof room, sealed, count, ups, COUNT);
+            failing = 0;
+            EXPECT(code, SUK_OK);
+            for (size_t i = 0; i < count; i++) {
+                if (taken[i])
+                    EXPECT(ups[i].code, 16);
+                else if (!wants_memory(&ups[i])) {
+                    EXPECT(ups[i].kind, SUK_UP);
+                    taken[i] = true;
+                    left--;
+                }
+            }
+        }
+    } while (refused > 0);
+    EXPECT(nth > 1, true);
+}
+
 /* Two gateways come to a child, and a packet goes through, though each allocation on the way fails first. */
 static void gateways_want_memory(void) {
     host a, b;
@@ -394,6 +442,7 @@ static void gateways_want_memory(void) {
     EXPECT(sukperin_esp(&b.gateway, room, output.length, &output), SUK_OK);
     failing = 0;
     EXPECT(output.kind, SUK_UP);
+    lists_want_memory(&a, &b, packet);
     close_both(&a, &b);
 }
 #endif
@@ -589,6 +638,219 @@ static void packets(void) {
     close_both(&a, &b);
 }
 
+/* ---- Lists, beside single calls on twins ---- */
+
+enum { LISTED = 150 };
+
+/* Packets one behind the other, and what came of each. */
+typedef struct {
+    uint8_t octets[LISTED * 128];
+    size_t length;
+    suk_place places[LISTED];
+    size_t count;
+    suk_output outputs[LISTED], single[LISTED];
+} list;
+
+static void append(list *to, const uint8_t *packet, size_t length) {
+    suk_place place = {to->length, length};
+    to->places[to->count++] = place;
+    memcpy(to->octets + to->length, packet, length);
+    to->length += length;
+}
+
+static void append_place(list *to, uint64_t offset, uint64_t length) {
+    suk_place place = {offset, length};
+    to->places[to->count++] = place;
+}
+
+static bool same_records(const list *of) { return memcmp(of->outputs, of->single, of->count * sizeof(suk_output)) == 0; }
+
+/* What a list tells of a packet that is refused alone. */
+static suk_output refused(uint32_t code) {
+    suk_output output;
+    memset(&output, 0, sizeof output);
+    output.kind = SUK_REFUSED;
+    output.code = code;
+    return output;
+}
+
+/* Two pairs of gateways, made of the same octets: what the one answers, its twin does. */
+static void bring_up_twins(host pair[2], host twins[2]) {
+    uint64_t before = drawn;
+    bring_up(&pair[0], &pair[1]);
+    drawn = before;
+    bring_up(&twins[0], &twins[1]);
+}
+
+/* From 10.1.0.1 to 10.TO.0.1, with so many octets behind the header. */
+static size_t packet_to(uint8_t to, size_t payload, uint8_t packet[128]) {
+    const uint8_t header[20] = {0x45, 0, 0, (uint8_t)(20 + payload), 0, 0, 0, 0, 64, 1, 0, 0, 10, 1, 0, 1, 10, to, 0, 1};
+    memcpy(packet, header, 20);
+    for (size_t i = 0; i < payload; i++) packet[20 + i] = (uint8_t)(i * 5 + payload);
+    return 20 + payload;
+}
+
+/* 150 packets on their way out, and what is sealed of them on its way in: in order, damaged, replayed, cut, and outside the buffer. */
+static void lists(void) {
+    static list out, in, again;
+    static uint8_t room[LISTED * 128], single_room[LISTED * 128];
+    host pair[2], twins[2];
+    uint8_t packet[128];
+    size_t needed = 0, used = 0, sealed = 0;
+    bring_up_twins(pair, twins);
+    memset(&out, 0, sizeof out);
+    memset(&in, 0, sizeof in);
+    memset(&again, 0, sizeof again);
+    for (size_t i = 0; i < LISTED; i++) {
+        size_t length = packet_to(i % 7 == 3 ? 9 : i % 7 == 4 ? 8 : 2, i % 50, packet);
+        if (i % 7 == 6)
+            append_place(&out, i % 2 ? UINT64_MAX : sizeof out.octets, 20);
+        else
+            append(&out, packet, i % 7 == 5 ? length - 1 : length);
+        needed += SUK_ROOM(out.places[i].length);
+    }
+    memset(room, 0xee, sizeof room);
+    EXPECT(sukperin_outward_all(&pair[0].gateway, out.octets, out.length, out.places, LISTED, room, needed, out.outputs, LISTED), SUK_OK);
+    for (size_t i = 0; i < LISTED; i++) {
+        if (i % 7 == 6) {
+            out.single[i] = refused(SUK_E_PLACE);
+            continue;
+        }
+        EXPECT(sukperin_outward(&twins[0].gateway, out.octets + out.places[i].offset, out.places[i].length, single_room + used,
+                                sizeof single_room - used, &out.single[i]),
+               SUK_OK);
+        if (out.single[i].kind == SUK_SEALED) {
+            EXPECT(out.single[i].offset, 0);
+            out.single[i].offset = used;
+            used += out.single[i].length;
+            EXPECT(out.single[i].number, ++sealed);
+        }
+    }
+    EXPECT(same_records(&out), true);
+    EXPECT(sealed > 64, true);
+    EXPECT(memcmp(room, single_room, used), 0);
+    EXPECT(out.outputs[3].kind, SUK_CLEAR);
+    EXPECT(out.outputs[4].kind, SUK_DISCARDED);
+    EXPECT(out.outputs[5].code, 21);
+    EXPECT(out.outputs[6].code, SUK_E_PLACE);
+
+    for (size_t i = 0; i < LISTED; i++) {
+        if (out.outputs[i].kind != SUK_SEALED)
+            continue;
+        const uint8_t *octets = room + out.outputs[i].offset;
+        size_t length = out.outputs[i].length;
+        append(&in, octets, i % 11 == 7 ? length - 1 : i % 11 == 8 ? 3 : length);
+        if (i % 11 == 9)
+            in.octets[in.length - 1] ^= 1;
+        if (i % 11 == 10)
+            in.octets[in.length - length] ^= 1;
+        if (i % 11 == 2)
+            append(&in, octets, length);
+        if (i % 11 == 5)
+            append_place(&in, in.length, sizeof in.octets);
+    }
+    append_place(&in, UINT64_MAX, UINT64_MAX);
+    append_place(&in, 1, UINT64_MAX);
+    append_place(&in, in.length + 1, 0);
+    append_place(&in, in.length, 0); /* it is there, and has no octet */
+    EXPECT(in.count > 64 && in.count < LISTED, true);
+    memset(in.outputs, 0xee, sizeof in.outputs);
+    EXPECT(sukperin_esp_all(&pair[1].gateway, in.octets, in.length, in.places, in.count, in.outputs, LISTED), SUK_OK);
+    for (size_t i = 0; i < in.count; i++) {
+        suk_place place = in.places[i];
+        if (place.offset > in.length || place.length > in.length - place.offset)
+            in.single[i] = refused(SUK_E_PLACE);
+        else
+            EXPECT(sukperin_esp(&twins[1].gateway, in.octets + place.offset, place.length, &in.single[i]), SUK_OK);
+    }
+    EXPECT(same_records(&in), true);
+    EXPECT(in.outputs[in.count].kind, 0xeeeeeeee); /* a record without a place is as before */
+    EXPECT(in.outputs[0].kind, SUK_UP);
+    EXPECT(in.outputs[0].offset, 8);
+    EXPECT(in.outputs[in.count - 1].code, 14);
+    EXPECT(in.outputs[in.count - 2].code, SUK_E_PLACE);
+    unsigned by_code[SUK_E_PLACE + 1] = {0};
+    for (size_t i = 0; i < in.count; i++) by_code[in.outputs[i].code]++;
+    EXPECT(by_code[0] > 32 && by_code[14] > 2 && by_code[16] > 2 && by_code[18] > 2 && by_code[28] > 2 && by_code[SUK_E_PLACE] > 5, true);
+
+    /* The same again, backwards: all that was taken is a replay. */
+    for (size_t i = in.count; i-- > 0;) append_place(&again, in.places[i].offset, in.places[i].length);
+    EXPECT(sukperin_esp_all(&pair[1].gateway, in.octets, in.length, again.places, again.count, again.outputs, again.count), SUK_OK);
+    for (size_t i = 0; i < in.count; i++) EXPECT(again.outputs[i].kind == SUK_UP, false);
+    suk_child child, twin;
+    EXPECT(sukperin_child_after(&pair[1].gateway, 0, &child), SUK_OK);
+    EXPECT(sukperin_child_after(&twins[1].gateway, 0, &twin), SUK_OK);
+    EXPECT(memcmp(&child, &twin, sizeof child), 0);
+    close_both(&pair[0], &pair[1]);
+    close_both(&twins[0], &twins[1]);
+}
+
+/* What a list is refused for, as a whole and one packet of it alone. */
+static void lists_that_are_refused(void) {
+    static list three;
+    host a, b;
+    suk_gateway none = SUK_NONE;
+    uint8_t packet[128], room[3 * SUK_ROOM(20)];
+    suk_child child;
+    bring_up(&a, &b);
+    memset(&three, 0, sizeof three);
+    for (int i = 0; i < 3; i++) append(&three, packet, packet_to(2, 0, packet));
+    memset(three.outputs, 0xee, sizeof three.outputs);
+    memset(room, 0xee, sizeof room);
+    suk_output *outputs = three.outputs;
+    EXPECT(sukperin_outward_all(&none, three.octets, 60, three.places, 3, room, sizeof room, outputs, 3), SUK_E_NO_END);
+    EXPECT(sukperin_outward_all(&none, three.octets, 60, three.places, 3, room, sizeof room, outputs, 2), SUK_E_NO_END);
+    EXPECT(sukperin_outward_all(&a.gateway, three.octets, 60, three.places, 3, room, sizeof room, outputs, 2), SUK_E_ROOM);
+    EXPECT(sukperin_esp_all(&none, three.octets, 60, three.places, 3, outputs, 3), SUK_E_NO_END);
+    EXPECT(sukperin_esp_all(&none, three.octets, 60, three.places, 3, outputs, 2), SUK_E_NO_END);
+    EXPECT(sukperin_esp_all(&b.gateway, three.octets, 60, three.places, 3, outputs, 2), SUK_E_ROOM);
+    EXPECT(outputs[0].kind, 0xeeeeeeee);
+    EXPECT(room[0], 0xee);
+    EXPECT(sukperin_child_after(&a.gateway, 0, &child), SUK_OK);
+    EXPECT(child.sent, 0);
+    /* A list without a packet. */
+    EXPECT(sukperin_outward_all(&a.gateway, NULL, 0, NULL, 0, room, sizeof room, outputs, 0), SUK_OK);
+    EXPECT(sukperin_esp_all(&b.gateway, NULL, 0, NULL, 0, outputs, 0), SUK_OK);
+    EXPECT(outputs[0].kind, 0xeeeeeeee);
+    /* Room for two, and an octet too few for the third. */
+    EXPECT(sukperin_outward_all(&a.gateway, three.octets, 60, three.places, 3, room, 48 + 48 + SUK_ROOM(20) - 1, outputs, 3), SUK_OK);
+    EXPECT(outputs[0].kind == SUK_SEALED && outputs[0].offset == 0 && outputs[0].length == 48, true);
+    EXPECT(outputs[1].kind == SUK_SEALED && outputs[1].offset == 48 && outputs[1].number == 2, true);
+    suk_output wanted = refused(SUK_E_ROOM);
+    EXPECT(memcmp(&outputs[2], &wanted, sizeof wanted), 0);
+    EXPECT(room[96], 0xee);
+    /* One that is too long is refused alone: what follows it still has room. */
+    packet_to(2, 1, packet);
+    memset(&three, 0, sizeof three);
+    append(&three, packet, 21);
+    append(&three, packet, packet_to(2, 0, packet));
+    append(&three, packet, packet_to(9, 0, packet));
+    EXPECT(sukperin_outward_all(&a.gateway, three.octets, 61, three.places, 3, room, SUK_ROOM(20), outputs, 3), SUK_OK);
+    EXPECT(outputs[0].code, SUK_E_ROOM);
+    EXPECT(outputs[1].kind == SUK_SEALED && outputs[1].offset == 0 && outputs[1].number == 3, true);
+    EXPECT(outputs[2].kind == SUK_REFUSED && outputs[2].code == SUK_E_ROOM, true); /* also what the policy would let pass */
+    /* A list is no message. */
+    suk_message_told told;
+    EXPECT(sukperin_message(&a.gateway, 0, room, sizeof room, &told), SUK_E_NOTHING);
+    const suk_place *places = three.places;
+    EXPECT(sukperin_esp_all(NULL, three.octets, 60, places, 3, outputs, 3), SUK_E_NULL);
+    EXPECT(sukperin_esp_all(&b.gateway, NULL, 60, places, 3, outputs, 3), SUK_E_NULL);
+    EXPECT(sukperin_esp_all(&b.gateway, three.octets, SIZE_MAX, places, 3, outputs, 3), SUK_E_NULL);
+    EXPECT(sukperin_esp_all(&b.gateway, three.octets, 60, NULL, 3, outputs, 3), SUK_E_NULL);
+    EXPECT(sukperin_esp_all(&b.gateway, three.octets, 60, places, PTRDIFF_MAX / 8, outputs, 3), SUK_E_NULL);
+    EXPECT(sukperin_esp_all(&b.gateway, three.octets, 60, places, 3, NULL, 3), SUK_E_NULL);
+    EXPECT(sukperin_esp_all(&b.gateway, three.octets, 60, places, 3, outputs, PTRDIFF_MAX / 8), SUK_E_NULL);
+    EXPECT(sukperin_outward_all(NULL, three.octets, 60, places, 3, room, sizeof room, outputs, 3), SUK_E_NULL);
+    EXPECT(sukperin_outward_all(&a.gateway, NULL, 60, places, 3, room, sizeof room, outputs, 3), SUK_E_NULL);
+    EXPECT(sukperin_outward_all(&a.gateway, three.octets, 60, NULL, 3, room, sizeof room, outputs, 3), SUK_E_NULL);
+    EXPECT(sukperin_outward_all(&a.gateway, three.octets, 60, places, SIZE_MAX / 16, room, sizeof room, outputs, 3), SUK_E_NULL);
+    EXPECT(sukperin_outward_all(&a.gateway, three.octets, 60, places, 3, NULL, sizeof room, outputs, 3), SUK_E_NULL);
+    EXPECT(sukperin_outward_all(&a.gateway, three.octets, 60, places, 3, room, SIZE_MAX, outputs, 3), SUK_E_NULL);
+    EXPECT(sukperin_outward_all(&a.gateway, three.octets, 60, places, 3, room, sizeof room, NULL, 3), SUK_E_NULL);
+    EXPECT(sukperin_outward_all(&a.gateway, three.octets, 60, places, 3, room, sizeof room, outputs, SIZE_MAX / 64), SUK_E_NULL);
+    close_both(&a, &b);
+}
+
 static void messages(void) {
     host a, b;
     bring_up(&a, &b);
@@ -752,7 +1014,7 @@ static void time_passes(void) {
 static void texts(void) {
     EXPECT(strcmp(sukperin_text(16), "the number was taken already"), 0);
     for (uint32_t code = 0; code <= 120; code++) {
-        bool known = code <= 39 || (code >= 101 && code <= 108);
+        bool known = code <= 39 || (code >= 101 && code <= 109);
         EXPECT(strcmp(sukperin_text(code), "an unknown code") != 0, known);
     }
 }
@@ -771,6 +1033,8 @@ int main(void) {
     null_is_refused();
     configurations();
     packets();
+    lists();
+    lists_that_are_refused();
     messages();
     tables();
     orders_to_delete();

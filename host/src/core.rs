@@ -15,7 +15,7 @@ use std::net::Ipv4Addr;
 use std::ops::Range;
 use zeroize::Zeroizing;
 
-/// The octets of chance that an input of IKE takes, never used twice.
+/// The random octets that an input of IKE takes, never used twice.
 pub struct Fresh(Zeroizing<[u8; Fresh::OCTETS]>);
 
 impl Fresh {
@@ -45,48 +45,48 @@ pub struct Terms<'a> {
     pub cookie_secret: &'a [u8; 32],
 }
 
-/// An order to a gateway. Each takes octets of chance.
+/// A command to a gateway. Each takes random octets.
 #[derive(Clone, Copy, Debug, PartialEq, Eq)]
 pub enum Request {
-    /// Another association with a child by an entry.
+    /// Another IKE SA with a Child SA by an entry.
     Start {
         /// The entry's place in the policy, from 0.
         entry: u32,
     },
-    /// A further child under an association.
+    /// An additional Child SA under an IKE SA.
     Child {
-        /// The association's serial.
+        /// The IKE SA's serial.
         ike: u32,
         /// The entry's place in the policy, from 0.
         entry: u32,
     },
     /// Whether the peer is there.
     Probe {
-        /// The association's serial.
+        /// The IKE SA's serial.
         ike: u32,
     },
-    /// That a child ends.
+    /// That a Child SA ends.
     DeleteChild {
-        /// The child's serial.
+        /// The Child SA's serial.
         child: u32,
     },
-    /// That an association ends.
+    /// That an IKE SA ends.
     DeleteIke {
-        /// The association's serial.
+        /// The IKE SA's serial.
         ike: u32,
     },
 }
 
-/// What came of a datagram of IKE, of an order or of a moment.
+/// What came of a datagram of IKE, of a command or of a moment.
 #[derive(Clone, Debug, PartialEq, Eq)]
 pub enum Outcome {
     /// A request of the peer took effect, and these octets answer it.
     Reply {
         /// The message.
         octets: Vec<u8>,
-        /// The child that it made, where that is told.
+        /// The Child SA that it made, where that is told.
         child: Option<u32>,
-        /// The association that it closed.
+        /// The IKE SA that it closed.
         closed: Option<u32>,
     },
     /// A request of the peer came again, and these octets answer it again.
@@ -96,28 +96,28 @@ pub enum Outcome {
     },
     /// A request of this end goes out.
     Request {
-        /// The association's serial.
+        /// The IKE SA's serial.
         ike: u32,
         /// The message.
         octets: Vec<u8>,
     },
     /// An answer was counted.
     Counted {
-        /// The association's serial.
+        /// The IKE SA's serial.
         ike: u32,
-        /// The child that it made.
+        /// The Child SA that it made.
         child: Option<u32>,
-        /// Whether it closed the association.
+        /// Whether it closed the IKE SA.
         closed: bool,
     },
     /// What a moment brought.
     Ticked {
         /// The requests that go out again.
         requests: Vec<Vec<u8>>,
-        /// The associations that were closed, since no answer came.
+        /// The IKE SAs that were closed, since no answer came.
         closed: Vec<u32>,
     },
-    /// An order was carried out, and nothing goes out.
+    /// A command was carried out, and nothing goes out.
     Done,
     /// It was dropped or refused, for the reason with this E number.
     Refused {
@@ -131,7 +131,7 @@ pub enum Outcome {
 pub enum Passage {
     /// What an ESP packet carried goes up.
     Up {
-        /// The child that it came by.
+        /// The Child SA that it came by.
         child: u32,
         /// Its number.
         number: u64,
@@ -140,14 +140,14 @@ pub enum Passage {
     },
     /// An ESP packet carried nothing.
     Dummy {
-        /// The child that it came by.
+        /// The Child SA that it came by.
         child: u32,
         /// Its number.
         number: u64,
     },
     /// A packet goes out protected.
     Sealed {
-        /// The child that it goes by.
+        /// The Child SA that it goes by.
         child: u32,
         /// Its number.
         number: u64,
@@ -165,7 +165,7 @@ pub enum Passage {
     },
 }
 
-/// How far an association is.
+/// How far an IKE SA is.
 #[derive(Clone, Copy, Debug, PartialEq, Eq)]
 pub enum Phase {
     /// Not yet established.
@@ -176,7 +176,7 @@ pub enum Phase {
     Closed,
 }
 
-/// An IKE association, as a gateway tells of it.
+/// An IKE SA, as a gateway tells of it.
 #[derive(Clone, Debug, PartialEq, Eq)]
 pub struct AssociationTold {
     /// Its serial.
@@ -191,7 +191,7 @@ pub struct AssociationTold {
     pub spi_responder: u64,
 }
 
-/// A selector of a child.
+/// A selector of a Child SA.
 #[derive(Clone, Copy, Debug, PartialEq, Eq)]
 pub struct Selector {
     /// The IP protocol, 0 for any.
@@ -202,12 +202,12 @@ pub struct Selector {
     pub ports: (u16, u16),
 }
 
-/// A child, as a gateway tells of it.
+/// A Child SA, as a gateway tells of it.
 #[derive(Clone, Debug, PartialEq, Eq)]
 pub struct ChildTold {
     /// Its serial.
     pub child: u32,
-    /// The serial of its association.
+    /// The serial of its IKE SA.
     pub ike: u32,
     /// The SPI by which packets come.
     pub spi_in: u32,
@@ -231,7 +231,7 @@ pub trait Core: Sized {
     /// Takes a datagram of IKE.
     fn ike(&mut self, from: Ipv4Addr, datagram: &[u8], fresh: Fresh) -> Outcome;
 
-    /// Takes an order.
+    /// Takes a command.
     fn order(&mut self, request: Request, fresh: Fresh) -> Outcome;
 
     /// Takes a new secret for cookies.
@@ -256,9 +256,9 @@ pub trait Core: Sized {
         passed: &mut Vec<Passage>,
     );
 
-    /// The children, by rising serial.
+    /// The Child SAs, by rising serial.
     fn children(&mut self) -> Vec<ChildTold>;
 
-    /// The associations, those not yet established and those closed among them.
+    /// The IKE SAs, those not yet established and those closed among them.
     fn associations(&mut self) -> Vec<AssociationTold>;
 }

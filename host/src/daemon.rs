@@ -7,8 +7,8 @@
 //! | File | Has |
 //! |---|---|
 //! | `daemon/site.rs` | one peer with its gateways and its interface |
-//! | `daemon/gateway.rs` | one gateway, and what is known of its associations and children |
-//! | `daemon/obey.rs` | carrying out the orders of a peer's care |
+//! | `daemon/gateway.rs` | one gateway, and what is known of its IKE SAs and Child SAs |
+//! | `daemon/obey.rs` | carrying out the commands of a peer's care |
 //! | `daemon/ike.rs`, `esp.rs`, `inside.rs` | the three ways by which octets come |
 //! | `daemon/reload.rs` | a configuration that was read anew |
 //! | `daemon/allowance.rs`, `tally.rs`, `refusals.rs` | first requests, counts of refusals, their words |
@@ -50,8 +50,8 @@ const LONGEST_ESP: usize = 17_408;
 /// Why the loop ends, but for a signal.
 #[derive(Debug, Error)]
 pub enum Stop {
-    /// Without chance no key would be secret.
-    #[error("the system gives no octets of chance: {0}")]
+    /// Without randomness no key would be secret.
+    #[error("the system gives no random octets: {0}")]
     NoChance(io::Error),
 }
 
@@ -84,7 +84,7 @@ pub struct Daemon<C> {
 }
 
 impl<C: Core> Daemon<C> {
-    /// A daemon by a configuration, with its interfaces and the first orders of each
+    /// A daemon by a configuration, with its interfaces and the first commands of each
     /// peer's care carried out.
     pub fn new<S: System>(config: Config, system: &mut S) -> Result<Daemon<C>, Stop> {
         let mut daemon = Daemon {
@@ -157,7 +157,7 @@ impl<C: Core> Daemon<C> {
         Ok(())
     }
 
-    /// SIGTERM: each peer is told that its associations end.
+    /// SIGTERM: each peer is told that its IKE SAs end.
     fn leave<S: System>(&mut self, system: &mut S) -> Result<(), Stop> {
         if self.leaving {
             return Ok(());

@@ -1,4 +1,4 @@
-//! The care of one peer: all timers and orders in one place, without a system call.
+//! The care of one peer: all timers and commands in one place, without a system call.
 //!
 //! [`Peer`] is told [`Event`]s and gives [`Order`]s. It owns no clock and no socket:
 //! each event comes with its moment, in milliseconds from any beginning, and
@@ -52,14 +52,14 @@ use holds::Holds;
 use kept::Kept;
 use std::collections::VecDeque;
 
-/// The association that this end begins. There is one at most.
+/// The IKE SA that this end begins. There is one at most.
 #[derive(Clone, Debug, PartialEq, Eq)]
 struct Beginning {
     gateway: u32,
     entry: u32,
-    /// Its serial, once the order was carried out.
+    /// Its serial, once the command was carried out.
     ike: Option<u32>,
-    /// The associations that stood when it was begun, in whose place it is.
+    /// The IKE SAs that stood when it was begun, in whose place it is.
     replaces: Vec<AssociationName>,
 }
 
@@ -81,8 +81,8 @@ pub struct Peer {
 }
 
 impl Peer {
-    /// The care of a peer from a moment on, in milliseconds. Its first orders open a
-    /// gateway and, if this end begins, an association.
+    /// The care of a peer from a moment on, in milliseconds. Its first commands open a
+    /// gateway and, if this end begins, an IKE SA.
     pub fn new(settings: Settings, now: u64) -> Peer {
         let mut peer = Peer {
             settings,
@@ -114,7 +114,7 @@ impl Peer {
         self.review();
     }
 
-    /// The next order, to be carried out at once.
+    /// The next command, to be carried out at once.
     pub fn next_order(&mut self) -> Option<Order> {
         self.orders.pop_front()
     }
@@ -179,7 +179,7 @@ impl Peer {
         }
     }
 
-    /// The association that this end began is established, or was declined.
+    /// The IKE SA that this end began is established, or was declined.
     fn began(&mut self, name: AssociationName, child: Option<NewChild>, closed: bool) {
         let Some(beginning) = self.beginning.take() else {
             return;
@@ -200,7 +200,7 @@ impl Peer {
         }
     }
 
-    /// An association that was given up is established all the same: away with it.
+    /// An IKE SA that was given up is established all the same: away with it.
     fn surplus(&mut self, name: AssociationName) {
         let mut association = Association::new(self.now, name);
         association.end_at(self.now);
@@ -269,7 +269,7 @@ impl Peer {
         }
     }
 
-    /// A child that the peer asked for is there. The peer has it only with our reply,
+    /// A Child SA that the peer asked for is there. The peer has it only with our reply,
     /// so packets wait if they went out by another child until now.
     fn made_by_peer(&mut self, name: AssociationName, told: NewChild) {
         let went_out = self
@@ -288,7 +288,7 @@ impl Peer {
         }
     }
 
-    /// The peer deleted a child. If it does so again and again, the next one waits.
+    /// The peer deleted a Child SA. If it does so again and again, the next one waits.
     fn deleted_by_peer(&mut self, name: AssociationName, serial: u32) {
         let young = self.now.saturating_sub(self.settings.timers.settled);
         if let Some(association) = find_mut(&mut self.associations, name) {
@@ -311,7 +311,7 @@ impl Peer {
         }
     }
 
-    /// An association is closed, and its children are gone.
+    /// An IKE SA is closed, and its Child SAs are gone.
     fn closed(&mut self, name: AssociationName) {
         if self.is_beginning(name) {
             self.beginning = None;
@@ -335,7 +335,7 @@ impl Peer {
         }
     }
 
-    /// Something that the core checked came under an association.
+    /// Something that the core checked came under an IKE SA.
     fn heard(&mut self, name: AssociationName) {
         if let Some(association) = find_mut(&mut self.associations, name) {
             association.heard_at = self.now;
@@ -422,7 +422,7 @@ impl Peer {
         })
     }
 
-    /// Whether a child is asked for anywhere.
+    /// Whether a Child SA is asked for anywhere.
     fn asks_child(&self) -> bool {
         self.beginning.is_some() || self.associations.iter().any(Association::asks_child)
     }
@@ -433,7 +433,7 @@ impl Peer {
             .position(|association| association.name == name)
     }
 
-    /// A child, and the moment at which its association was last heard of.
+    /// A Child SA, and the moment at which its IKE SA was last heard of.
     fn find_child(&mut self, name: ChildName) -> Option<(&mut u64, &mut Child)> {
         self.associations
             .iter_mut()

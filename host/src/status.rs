@@ -43,11 +43,11 @@ pub struct PeerStatus {
     pub name: String,
     /// Its address outside.
     pub address: Ipv4Addr,
-    /// Whether this end begins associations.
+    /// Whether this end begins IKE SAs.
     pub begins: bool,
-    /// For how long an association has stood, if one does.
+    /// For how long an IKE SA has stood, if one does.
     pub up: Option<u64>,
-    /// The entries that protect, and those of them that a child carries.
+    /// The entries that protect, and those of them that a Child SA carries.
     pub entries: u64,
     /// See `entries`.
     pub carried: u64,
@@ -55,9 +55,9 @@ pub struct PeerStatus {
     pub last_probe: Option<u64>,
     /// The interface to the inside, if the configuration has one.
     pub interface: Option<Interface>,
-    /// The IKE associations.
+    /// The IKE SAs.
     pub associations: Vec<Association>,
-    /// The children.
+    /// The Child SAs.
     pub children: Vec<Child>,
     /// What was counted.
     pub counters: Counters,
@@ -74,11 +74,11 @@ pub struct Interface {
     pub there: bool,
     /// The MTU of packets outside.
     pub outer_mtu: u16,
-    /// Whether packets wait for the peer to have a new child.
+    /// Whether packets wait for the peer to have a new Child SA.
     pub waiting: bool,
 }
 
-/// An IKE association.
+/// An IKE SA.
 #[derive(Clone, Debug, PartialEq, Eq, Serialize, Deserialize)]
 pub struct Association {
     /// The gateway that it is of, and its serial there.
@@ -97,14 +97,14 @@ pub struct Association {
     pub spi_responder: String,
 }
 
-/// A child.
+/// A Child SA.
 #[derive(Clone, Debug, PartialEq, Eq, Serialize, Deserialize)]
 pub struct Child {
     /// The gateway that it is of, and its serial there.
     pub gateway: u32,
     /// See `gateway`.
     pub serial: u32,
-    /// The serial of its association.
+    /// The serial of its IKE SA.
     pub association: u32,
     /// The place of the policy's entry that it carries, if it is known.
     pub entry: Option<u32>,
@@ -153,7 +153,7 @@ pub struct Counters {
     pub octets_out: u64,
     /// ESP packets that carried nothing.
     pub dummies: u64,
-    /// ESP packets that were kept for a child that was about to be made.
+    /// ESP packets that were kept for a Child SA that was about to be made.
     pub kept: u64,
     /// Packets going out that the policy discards.
     pub discarded: u64,
@@ -266,7 +266,7 @@ impl PeerStatus {
             writeln!(
                 out,
                 "  {:<11} {:<12} {:<8} {:<9} SPIs",
-                "association", "phase", "begun", "for"
+                "IKE SA", "phase", "begun", "for"
             )?;
         }
         for association in &self.associations {
@@ -289,7 +289,7 @@ impl PeerStatus {
             writeln!(
                 out,
                 "  {:<11} {:<6} {:<9} {:>12} {:>12} {:>14} {:>14}  SPIs in, out",
-                "child", "entry", "for", "last sent", "last taken", "octets out", "octets in"
+                "Child SA", "entry", "for", "last sent", "last taken", "octets out", "octets in"
             )?;
         }
         for child in &self.children {
@@ -331,7 +331,7 @@ impl PeerStatus {
         for (count, what) in [
             (counters.first_requests_limited, "first requests not let in"),
             (counters.dummies, "dummy packets"),
-            (counters.kept, "packets kept for a new child"),
+            (counters.kept, "packets kept for a new Child SA"),
             (counters.discarded, "discarded by the policy"),
             (counters.bypassed, "bypassed by the policy, not sent on"),
             (counters.congested, "dropped for congestion"),

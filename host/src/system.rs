@@ -1,4 +1,4 @@
-//! What the daemon's loop wants of the system: moments, chance, sockets, interfaces.
+//! What the daemon's loop wants of the system: moments, randomness, sockets, interfaces.
 //!
 //! [`System`] is what the loop calls. [`linux`] has it for Linux, tests have one that
 //! needs neither sockets nor root. All `unsafe` code of this crate is in one module
@@ -70,7 +70,7 @@ pub trait System {
     /// The moment, in milliseconds from any beginning. It never goes back.
     fn now(&mut self) -> u64;
 
-    /// Fills octets with chance that nobody can foretell.
+    /// Fills octets with randomness that nobody can foretell.
     fn draw(&mut self, octets: &mut [u8]) -> io::Result<()>;
 
     /// Waits until a moment at most, or until something happens. Of the interfaces

@@ -1,7 +1,7 @@
 #!/usr/bin/env python3
 """Garbage as fast as it goes: garbage.py ike|esp FROM TO SECONDS [SPI ..]
 
-Of IKE it is octets by chance, whole headers with a body by chance, and first requests that begin well. Of ESP it is octets by chance, half of
+Of IKE it is random octets, whole headers with a random body, and first requests that begin well. Of ESP it is random octets, half of
 them behind one of the SPIs, which are hexadecimal. It tells how many datagrams the kernel took.
 """
 import random

@@ -46,7 +46,7 @@ fn until_up(world: &mut World, longest: u64) -> u64 {
 #[test]
 fn a_link_comes_up_at_once() {
     let mut world = World::new(link(), 1);
-    // Two round trips for the first child, and one for the second.
+    // Two round trips for the first Child SA, and one for the second.
     assert_eq!(until_up(&mut world, SECOND), 60);
 }
 
@@ -111,7 +111,7 @@ fn a_busy_link_is_not_probed() {
     assert_eq!(counts.starts, 1);
 }
 
-/// A link that replaces its children each ten seconds and its associations each
+/// A link that replaces its Child SAs each ten seconds and its IKE SAs each
 /// minute, with a packet each 3 ms. Tells what was lost of what was sent.
 fn lost_at_replacements(seed: u64, delay: (u64, u64), loss: u64) -> (u64, World) {
     let mut plan = link();
@@ -149,7 +149,7 @@ fn no_packet_is_lost_at_a_replacement() {
         let sent = world.summary.packets_sent;
         let counts = world.finish().counts;
         println!(
-            "{sent} packets, {} children, {} associations, {} waits of {} ms at most: {lost} lost",
+            "{sent} packets, {} Child SAs, {} IKE SAs, {} waits of {} ms at most: {lost} lost",
             counts.children, counts.starts, counts.holds, counts.longest_hold
         );
         assert_eq!(lost, 0);
@@ -312,8 +312,8 @@ fn gateways_take_over_where_the_core_says_that_spis_ended() {
 
 #[test]
 fn numbers_never_end() {
-    // A million packets a second, from one end or the other, without extended numbers:
-    // all would be spent in 72 minutes, and by age a child is replaced in eight hours.
+    // A million packets a second, from one end or the other, without ESN:
+    // all would be spent in 72 minutes, and by age a Child SA is replaced in eight hours.
     for burst in [[1_000_000, 0], [0, 1_000_000]] {
         let mut plan = link();
         plan.interval = SECOND;

@@ -1,5 +1,5 @@
 #!/bin/sh
-# Two daemons with the core in two network namespaces over a veth pair: up, pings of both families, replacement of a child under pings, a wrong
+# Two daemons with the core in two network namespaces over a veth pair: up, pings of both families, replacement of a Child SA under pings, a wrong
 # secret, a changed configuration, kills, an interface that goes and comes, a wire that is cut, a queue that overflows, how often an idle daemon
 # wakes. As root: sh host/tests/namespaces.sh [PROGRAM], of a program built with cargo's feature `library`
 # (SUKPERIN_LIB=FOLDER sh host/cargo.sh build --features library). It ends with how many passed, failed and were skipped.
@@ -77,14 +77,14 @@ expect "pings of both families, from the right" pings $right 1
 expect "the socket is its owner's alone" [ "$(stat -c %a "$folder/$left.sock")" = 600 ]
 expect "only rights to raw sockets and interfaces" grep -q 'CapEff:.*0000000000003000' "/proc/$(process $left)/status"
 
-# 75 s of pings, in which the children of 60 s are replaced.
+# 75 s of pings, in which the Child SAs of 60 s are replaced.
 before=$(children $left)
 ip netns exec $left ping -q -i 0.02 -c 3750 10.2.0.1 >"$folder/ping4" &
 four=$!
 ip netns exec $right ping -q -i 0.02 -c 3750 2001:db8:0:1::1 >"$folder/ping6" &
 six=$!
 wait $four $six
-expect "the children were replaced" [ "$before" != "$(children $left)" ]
+expect "the Child SAs were replaced" [ "$before" != "$(children $left)" ]
 loss=
 expect "without a loss" without_loss "$folder/ping4" "$folder/ping6"
 
@@ -130,7 +130,7 @@ expect "up again after a kill of both at once" within 20 reaches $left 2
 
 ip -n $left link delete suk0
 expect "an interface that was deleted is made again" within 10 reaches $left 2
-# So short a cut that nothing but packets is lost, and one in which the association is given up.
+# So short a cut that nothing but packets is lost, and one in which the IKE SA is given up.
 ip -n $left link set wire down
 sleep 3
 ip -n $left link set wire up

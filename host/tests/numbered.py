@@ -15,7 +15,7 @@ SUM = 8
 
 
 def body(number, chance):
-    """A datagram: its number, octets by chance, and a sum of both."""
+    """A datagram: its number, random octets, and a sum of both."""
     text = number.to_bytes(8, "little") + chance.randbytes(chance.randrange(1200))
     return text + hashlib.sha256(text).digest()[:SUM]
 

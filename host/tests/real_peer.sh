@@ -68,7 +68,7 @@ routes = ["10.2.0.0/24", "2001:db8:0:2::/64"]
 END
 }
 
-# charon's configuration: its proposal of ESP, what it does with a child once it is loaded (none or start), and how often it probes (0: never).
+# charon's configuration: its proposal of ESP, what it does with a Child SA once it is loaded (none or start), and how often it probes (0: never).
 charon_configuration() { # ESP ACTION PROBES
     close=none
     [ "$2" = none ] || close=start
@@ -173,7 +173,7 @@ pings() { # FROM
     esac
     loss= && without_loss "$folder/four" "$folder/six"
 }
-# Both ends hold the same children: each inbound SPI of ours is in charon's kernel, and it has as many more.
+# Both ends hold the same Child SAs: each inbound SPI of ours is in charon's kernel, and it has as many more.
 same_children() {
     ours=$(json $end | grep -o '"spi_\(in\|out\)":"[0-9a-f]*"' | grep -o '[0-9a-f]\{8\}' | sort)
     theirs=$(inside /usr/bin/ip xfrm state | grep -o 'spi 0x[0-9a-f]*' | grep -o '[0-9a-f]\{8\}' | sort)
@@ -209,11 +209,11 @@ brought_up() { # NAME BEGINS EXTENDED ESP PROBES TIMERS
     if [ "$2" = true ]; then charon_configuration "$4" none "$5"; else charon_configuration "$4" start "$5"; fi
     start $end
     charon_started
-    expect "$1: both children are up within 20 s" within 20 carried
+    expect "$1: both Child SAs are up within 20 s" within 20 carried
     charon_log
     expect "$1: pings of both families from ours" pings ours
     expect "$1: pings of both families from charon's" pings charon
-    expect "$1: both ends hold the same children" within 15 same_children
+    expect "$1: both ends hold the same Child SAs" within 15 same_children
 }
 
 # Pings both ways, as long as it is told, while something happens.
@@ -234,7 +234,7 @@ rekeyed_by_charon() {
     inside 'for turn in 1 2 3; do swanctl --rekey --child four; swanctl --rekey --child six; sleep 2; done' >/dev/null
     pings_end && [ "$before" != "$(children $end)" ]
 }
-# A rekeying of the IKE SA is declined. charon then ends the association and authenticates anew.
+# A rekeying of the IKE SA is declined. charon then ends the IKE SA and authenticates anew.
 ike_rekeying_declined() {
     old_association
     inside swanctl --rekey --ike site >/dev/null
@@ -243,7 +243,7 @@ ike_rekeying_declined() {
     figure="$figure, $(charon_counts 'N(NO_ADD_SAS)') times NO_ADDITIONAL_SAS"
     [ $held = 0 ] && [ "$(charon_counts 'N(NO_ADD_SAS)')" -gt 0 ]
 }
-# So many seconds of silence inside: who probes is answered, and the association stays.
+# So many seconds of silence inside: who probes is answered, and the IKE SA stays.
 probed() { # PATTERN AT-LEAST SECONDS
     before=$(json $end | grep -o '"spi_initiator":"[0-9a-f]*"')
     had=$(charon_counts "$1")
@@ -274,22 +274,22 @@ expect "its numbers have 64 bits at both ends" both_extended
 expect "a stream from ours" stream ours
 expect "a stream from charon's" stream charon
 expect "our probes are answered" probed 'parsed INFORMATIONAL request' 2 15
-expect "charon's rekeying of children, without a loss" rekeyed_by_charon
-expect "both ends hold the same children after it" within 10 same_children
+expect "charon's rekeying of Child SAs, without a loss" rekeyed_by_charon
+expect "both ends hold the same Child SAs after it" within 10 same_children
 expect "charon's rekeying of the IKE SA is declined, and it is up again" ike_rekeying_declined
 expect "up again after a kill of charon" charon_restarted 30
 expect "up again after a kill of ours" restarted 30
 old_association
 inside swanctl --terminate --ike site >/dev/null
-expect "up again after charon ended the association" within 20 is_new
+expect "up again after charon ended the IKE SA" within 20 is_new
 stop $end TERM
 expect "SIGTERM leaves charon nothing" within 5 charon_holds_none
 
 brought_up "charon begins, 64 bits" false true null-sha256-esn-noesn 2
 expect "its numbers have 64 bits at both ends too" both_extended
 expect "charon's probes are answered" probed 'sending DPD request' 3 10
-expect "charon's rekeying of children that it began, without a loss" rekeyed_by_charon
-expect "both ends hold the same children after that" within 10 same_children
+expect "charon's rekeying of Child SAs that it began, without a loss" rekeyed_by_charon
+expect "both ends hold the same Child SAs after that" within 10 same_children
 expect "up again after a kill of the charon that begins" charon_restarted 40
 expect "up again after a kill of ours that waits" restarted 60
 
@@ -298,7 +298,7 @@ expect "its numbers have 32 bits at both ends" both_plain
 brought_up "charon begins, 32 bits" false true null-sha256 2
 expect "its numbers have 32 bits at both ends too" both_plain
 
-# Children of 60 s and associations of 90 s are replaced under 100 s of pings.
+# Child SAs of 60 s and IKE SAs of 90 s are replaced under 100 s of pings.
 brought_up "ages" true true null-sha256-esn-noesn 0 'child_age = 60
 association_age = 90'
 old_association
@@ -309,8 +309,8 @@ aged() {
 }
 expect "replaced by age without a loss" aged
 all_new() { [ "$before" != "$(children $end)" ] && is_new; }
-expect "children and associations are others" all_new
-expect "both ends hold the same children after replacements" within 15 same_children
+expect "Child SAs and IKE SAs are others" all_new
+expect "both ends hold the same Child SAs after replacements" within 15 same_children
 
 secret="another secret"
 stop $end TERM

@@ -1,7 +1,7 @@
 #!/bin/sh
-# Two daemons with the core over a wire that loses 5 %, repeats 5 % and reorders 10 % of what goes, while traffic runs both ways and orders come at
-# random: SIGHUP with a changed configuration, SIGTERM, SIGKILL, both ends at once, an interface that is deleted. Children are replaced each few
-# seconds. Afterwards both ends hold the same children, and no datagram arrived twice or damaged.
+# Two daemons with the core over a wire that loses 5 %, repeats 5 % and reorders 10 % of what goes, while traffic runs both ways and commands come at
+# random: SIGHUP with a changed configuration, SIGTERM, SIGKILL, both ends at once, an interface that is deleted. Child SAs are replaced each few
+# seconds. Afterwards both ends hold the same Child SAs, and no datagram arrived twice or damaged.
 # As root: sh host/tests/soak.sh [PROGRAM] [SECONDS] [SEED], of a program built with cargo's feature `library`.
 cd "$(dirname "$0")" || exit 2
 . ./common.sh
@@ -123,8 +123,8 @@ agreed() {
     theirs=$(json $right | grep -o '"spi_in":"[0-9a-f]*","spi_out":"[0-9a-f]*"' | sed 's/"spi_in":\("[0-9a-f]*"\),"spi_out":\("[0-9a-f]*"\)/\2 \1/' | sort)
     [ -n "$mine" ] && [ "$mine" = "$theirs" ] && both_up
 }
-expect "afterwards both ends hold the same children" within 60 agreed
-echo "        $orders orders, children changed after $replacements of them; $(agreed && echo "$mine" | wc -l) children at each end"
+expect "afterwards both ends hold the same Child SAs" within 60 agreed
+echo "        $orders commands, Child SAs changed after $replacements of them; $(agreed && echo "$mine" | wc -l) Child SAs at each end"
 sleep 1
 # shellcheck disable=SC2046 # numbers of processes
 kill $(cat "$folder/counting")

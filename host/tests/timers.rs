@@ -40,7 +40,7 @@ impl Care {
         }
     }
 
-    /// All orders that wait; `Start` is told to have gone out.
+    /// All commands that wait; `Start` is told to have gone out.
     fn orders(&mut self, now: u64) -> Vec<Order> {
         let mut orders = Vec::new();
         while let Some(order) = self.peer.next_order() {
@@ -55,7 +55,7 @@ impl Care {
         orders
     }
 
-    /// What an event orders, but for secrets.
+    /// What an event commands, but for secrets.
     fn tell(&mut self, now: u64, event: Event) -> Vec<Order> {
         self.peer.take(now, event);
         let mut orders = self.orders(now);
@@ -63,7 +63,7 @@ impl Care {
         orders
     }
 
-    /// Goes from moment to moment until something but a secret is ordered.
+    /// Goes from moment to moment until something but a secret is commanded.
     fn next(&mut self) -> (u64, Vec<Order>) {
         loop {
             let moment = self.peer.next_moment().expect("something is due");
@@ -97,7 +97,7 @@ impl Care {
         }
     }
 
-    /// Something came by a child, so that nothing is silent.
+    /// Something came by a Child SA, so that nothing is silent.
     fn opened(&mut self, now: u64, child: u32) -> Vec<Order> {
         let child = child_name(child);
         let (number, octets) = (1, 1);
@@ -136,7 +136,7 @@ impl Care {
     }
 }
 
-/// One that begins, with its first association and a child of each entry.
+/// One that begins, with its first IKE SA and a Child SA of each entry.
 fn up(settings: Settings) -> Care {
     let entries = settings.entries.len() as u32;
     let mut care = Care::new(settings);
@@ -148,7 +148,7 @@ fn up(settings: Settings) -> Care {
     care
 }
 
-/// One that waits, with an association of the peer's.
+/// One that waits, with an IKE SA of the peer's.
 fn waiting() -> Care {
     let mut care = Care::new(settings(Role::Waits, 1));
     care.orders(0);
@@ -408,7 +408,7 @@ fn a_child_that_the_peer_deletes_is_asked_for_again() {
         now = moment;
     }
     assert_eq!(waits, [2, 4, 8, 16, 32, 64]);
-    // A child that lasts ends the waiting.
+    // A Child SA that lasts ends the waiting.
     assert_eq!(care.counted(now, 1, Some(0)), []);
     care.opened(now + 30_000, 9);
     assert_eq!(care.replied(now + 30_000, 1, None, &[9]), ask(0));
@@ -478,7 +478,7 @@ fn what_an_old_association_is_about_to_carry_counts_too() {
     let entry = 1;
     let orders = [Order::Child { association, entry }];
     assert_eq!(care.counted(5_010, 2, Some(0)), orders);
-    // The old one gets its second child when the new one has carried the first for
+    // The old one gets its second Child SA when the new one has carried the first for
     // longer than the overlap.
     let orders = care.counted(10_015, 1, Some(1));
     let delete = Order::DeleteIke {
@@ -691,7 +691,7 @@ fn a_packet_is_kept_once() {
     assert_eq!(care.tell(1, unknown(7)), [Order::Keep { packet: 7 }]);
     let orders = care.counted(3, 1, Some(0));
     assert!(orders.contains(&Order::GiveAgain { packet: 7 }));
-    // Another child is asked for, but this packet had its turn.
+    // Another Child SA is asked for, but this packet had its turn.
     assert_eq!(care.tell(4, unknown(7)), []);
 }
 

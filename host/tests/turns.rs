@@ -369,7 +369,7 @@ fn packets_wait_in_the_interface_while_the_peer_has_no_new_child_yet() {
     let mut link = Link::with(config(0, timers), config(1, timers));
     link.pass(59_000);
     let before = link.ends[1].status().peers[0].children[0].serial;
-    // The left end asks for a new child. Its answer is still on its way when the right
+    // The left end asks for a new Child SA. Its answer is still on its way when the right
     // end has packets.
     let mut waited = false;
     for _ in 0..3_000 {
@@ -423,8 +423,8 @@ fn packets_wait_in_the_interface_while_the_peer_has_no_new_child_yet() {
 #[test]
 fn a_packet_that_comes_before_its_child_is_kept_and_given_again() {
     let mut link = Link::new();
-    // The left end has asked for its first child; the answer is on its way when the right
-    // end, which has the child already, sends by it.
+    // The left end has asked for its first Child SA; the answer is on its way when the
+    // right end, which has the child already, sends by it.
     for _ in 0..20 {
         for end in 0..2 {
             let ike = std::mem::take(&mut link.ends[end].system.ike_out);
@@ -451,7 +451,7 @@ fn a_packet_that_comes_before_its_child_is_kept_and_given_again() {
     assert_eq!(end.status().peers[0].counters.kept, 1);
     link.settle();
     assert_eq!(link.ends[0].system.inside_out, [packet]);
-    // Where no child is asked for, none is kept.
+    // Where no Child SA is asked for, none is kept.
     let end = &mut link.ends[0];
     let mut unknown = early;
     unknown[23] ^= 0x80;
@@ -506,7 +506,7 @@ fn a_gateway_that_cannot_be_made_is_tried_again() {
     assert!(!link.is_up());
     assert_eq!(link.ends[0].system.logged("makes no gateway"), 1);
     close(false);
-    // The end that waits has no order that makes it try: a new configuration does.
+    // The end that waits has no command that makes it try: a new configuration does.
     link.ends[1] = End::new(1, config(1, ""));
     link.ends[1].system.now = link.ends[0].system.now;
     link.pass(60_000);

@@ -1,4 +1,4 @@
-"""Two gateways come to an association, step by step. One datagram comes damaged first.
+"""Two gateways come to an IKE SA, step by step. One datagram comes damaged first.
 
     SUKPERIN_LIB=PREFIX/lib python3 examples/exchange.py
 """
@@ -33,7 +33,7 @@ def main() -> None:
     assert isinstance(accepted, Reply)
     counted = left.ike(accepted.message)
     assert isinstance(counted, Counted)
-    print(f"association {counted.ike} with child {counted.child}")
+    print(f"IKE SA {counted.ike} with child {counted.child}")
     for child in left.children():
         print(f"child {child.serial}: SPI in {child.spi_in:08x}, out {child.spi_out:08x}, to {child.remotes[0].start}")
 

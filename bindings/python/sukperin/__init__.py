@@ -7,7 +7,7 @@
 A `Gateway` is one end with one peer. Each input gives one of the outputs in `sukperin.outputs`, or raises: `Dropped` and `Refused` with
 the number (E1 to E39) and its text where the core says so, `CallFault` where the call itself can't be used.
 
-`Outbound` and `Inbound` are the two ends of one ESP association under a key that is given, to judge captured packets.
+`Outbound` and `Inbound` are the two ends of one ESP SA under a key that is given, to judge captured packets.
 
 The shared library is `libsukperin.so.1`, looked for where the system looks, or in the folder that SUKPERIN_LIB names.
 """

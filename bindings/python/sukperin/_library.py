@@ -51,6 +51,10 @@ class OutputRecord(Structure):
     ]
 
 
+class PlaceRecord(Structure):
+    _fields_ = [("offset", c_uint64), ("length", c_uint64)]
+
+
 class MessageRecord(Structure):
     _fields_ = [("length", c_uint64), ("ike", c_uint32), ("reserved", c_uint32)]
 
@@ -79,7 +83,7 @@ class IkeAssociationRecord(Structure):
 
 NUMBERS = (c_uint8, c_uint32, c_uint64, c_size_t)
 
-# Octets that are read are given as `bytes`, and each is followed by its length.
+# Octets that are read are given as `bytes`, and each is followed by its length; lists of records are followed by their count.
 CALLS: "dict[str, tuple[Any, list[Any]]]" = {
     "suk_sender": (c_uint32, [POINTER(AssociationHandle), c_uint32, c_char_p, c_uint8, c_uint64]),
     "suk_receiver": (c_uint32, [POINTER(AssociationHandle), c_uint32, c_char_p, c_uint8, c_uint32]),
@@ -100,6 +104,9 @@ CALLS: "dict[str, tuple[Any, list[Any]]]" = {
     "suk_next": (c_uint32, [POINTER(GatewayHandle), POINTER(c_uint64)]),
     "suk_esp": (c_uint32, [POINTER(GatewayHandle), c_char_p, c_size_t, POINTER(OutputRecord)]),
     "suk_outward": (c_uint32, [POINTER(GatewayHandle), c_char_p, c_size_t, c_void_p, c_size_t, POINTER(OutputRecord)]),
+    "suk_esp_all": (c_uint32, [POINTER(GatewayHandle), c_char_p, c_size_t, c_void_p, c_size_t, c_void_p, c_size_t]),
+    "suk_outward_all": (c_uint32, [
+        POINTER(GatewayHandle), c_char_p, c_size_t, c_void_p, c_size_t, c_void_p, c_size_t, c_void_p, c_size_t]),
     "suk_inward": (c_uint32, [POINTER(GatewayHandle), c_char_p, c_size_t, POINTER(OutputRecord)]),
     "suk_message": (c_uint32, [POINTER(GatewayHandle), c_uint64, c_void_p, c_size_t, POINTER(MessageRecord)]),
     "suk_closing": (c_uint32, [POINTER(GatewayHandle), c_uint64, POINTER(c_uint32)]),

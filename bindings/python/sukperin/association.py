@@ -1,4 +1,4 @@
-"""The two ends of one ESP association (RFC 4303) under a key that is given: to judge packets that were captured, or that another stack
+"""The two ends of one ESP SA (RFC 4303) under a key that is given: to judge packets that were captured, or that another stack
 made."""
 
 import ctypes

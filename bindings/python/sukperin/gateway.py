@@ -1,21 +1,22 @@
 """One gateway."""
 
 import ctypes
+import itertools
 import secrets
 from ctypes import byref
 from ipaddress import IPv4Address
 from types import TracebackType
-from typing import List, Optional, Sequence, Type, Union
+from typing import List, Optional, Sequence, Tuple, Type, Union
 
 from . import _library
 from ._library import LIBRARY
 from .association import ESP_OCTETS
 from .outputs import (KINDS, Clear, Counted, Discarded, Done, Dummy, Output, Repeat, Reply, Request, Resent, Sealed, Ticked, Up)
-from .refusals import CallFault, Dropped, Refused, check
+from .refusals import CallFault, Dropped, Refusal, Refused, check
 from .settings import Address, Entry, Fresh, Identity
 from .tables import Association, Child, Selector
 
-# No message has more than 3000 octets, and no more than 128 associations are held beside those that the peer closed.
+# No message has more than 3000 octets, and no more than 128 IKE SAs are held beside those that the peer closed.
 MESSAGE_ROOM = 3000
 ASSOCIATION_ROOM = 256
 
@@ -60,7 +61,7 @@ class Gateway:
             psk, len(psk), peer_secret, len(peer_secret), entries, len(policy)))
 
     def start(self, entry: int = 0, *, ike: Optional[int] = None, fresh: Optional[Fresh] = None) -> Output:
-        """The order to ask for a child by an entry of the policy: with a new association, or as a further child of `ike`."""
+        """The command to ask for a Child SA by an entry of the policy: with a new IKE SA, or as an additional one of `ike`."""
         output = _library.OutputRecord()
         check(LIBRARY.suk_start(byref(self._handle), ike or 0, entry, _fresh(fresh), byref(output)))
         return self._output(output)
@@ -73,25 +74,25 @@ class Gateway:
         return self._output(output)
 
     def probe(self, ike: int, *, fresh: Optional[Fresh] = None) -> Output:
-        """The order to ask the peer of an association whether it is there."""
+        """The command to ask the peer of an IKE SA whether it is there."""
         output = _library.OutputRecord()
         check(LIBRARY.suk_probe(byref(self._handle), ike, _fresh(fresh), byref(output)))
         return self._output(output)
 
     def delete_child(self, child: int, *, fresh: Optional[Fresh] = None) -> Output:
-        """The order to delete a child."""
+        """The command to delete a Child SA."""
         output = _library.OutputRecord()
         check(LIBRARY.suk_delete_child(byref(self._handle), child, _fresh(fresh), byref(output)))
         return self._output(output)
 
     def delete_ike(self, ike: int, *, fresh: Optional[Fresh] = None) -> Output:
-        """The order to delete an association with all its children."""
+        """The command to delete an IKE SA with all its Child SAs."""
         output = _library.OutputRecord()
         check(LIBRARY.suk_delete_ike(byref(self._handle), ike, _fresh(fresh), byref(output)))
         return self._output(output)
 
     def secret(self, secret: bytes) -> Output:
-        """The order to make cookies under another secret, of 32 octets."""
+        """The command to make cookies under another secret, of 32 octets."""
         if len(secret) != 32:
             raise ValueError("a secret of cookies has 32 octets")
         output = _library.OutputRecord()
@@ -121,7 +122,22 @@ class Gateway:
         output = _library.OutputRecord()
         room = ctypes.create_string_buffer(len(packet) + ESP_OCTETS)
         check(LIBRARY.suk_outward(byref(self._handle), packet, len(packet), room, len(room), byref(output)))
-        return self._output(output, packet, room)
+        return self._output(output, packet, room.raw)
+
+    def esp_all(self, packets: Sequence[bytes]) -> List[Union[Output, Refusal]]:
+        """ESP packets that came, in their order: what `esp` gives for each of them, or the refusal that it raises. Up to 64 at a time
+        have their ICVs computed side by side."""
+        outputs = (_library.OutputRecord * len(packets))()
+        check(LIBRARY.suk_esp_all(byref(self._handle), *_listed(packets), outputs, len(outputs)))
+        return [_refusal(output) or self._output(output, packet) for output, packet in zip(outputs, packets)]
+
+    def outward_all(self, packets: Sequence[bytes]) -> List[Union[Output, Refusal]]:
+        """Whole IP packets on their way out, in their order: what `outward` gives for each of them, or the refusal that it raises."""
+        outputs = (_library.OutputRecord * len(packets))()
+        room = ctypes.create_string_buffer(sum(len(packet) + ESP_OCTETS for packet in packets))
+        check(LIBRARY.suk_outward_all(byref(self._handle), *_listed(packets), room, len(room), outputs, len(outputs)))
+        octets = room.raw
+        return [_refusal(output) or self._output(output, packet, octets) for output, packet in zip(outputs, packets)]
 
     def inward(self, packet: bytes) -> Output:
         """A whole IP packet that came in unprotected."""
@@ -130,7 +146,7 @@ class Gateway:
         return self._output(output, packet)
 
     def children(self) -> List[Child]:
-        """The children, by rising serial."""
+        """The Child SAs, by rising serial."""
         children: List[Child] = []
         record = _library.ChildRecord()
         while _is_told(LIBRARY.suk_child_after(byref(self._handle), record.serial, byref(record))):
@@ -144,7 +160,7 @@ class Gateway:
         return children
 
     def associations(self) -> List[Association]:
-        """The IKE associations that are held, those half open or closed among them."""
+        """The IKE SAs that are held, those half open or closed among them."""
         room = (_library.IkeAssociationRecord * ASSOCIATION_ROOM)()
         count = ctypes.c_uint64()
         check(LIBRARY.suk_associations(byref(self._handle), room, ASSOCIATION_ROOM, byref(count)))
@@ -181,12 +197,11 @@ class Gateway:
         check(LIBRARY.suk_closing(byref(self._handle), place, byref(ike)))
         return ike.value
 
-    def _output(self, told: _library.OutputRecord, packet: bytes = b"", room: "Optional[ctypes.Array[ctypes.c_char]]" = None) -> Output:
+    def _output(self, told: _library.OutputRecord, packet: bytes = b"", room: bytes = b"") -> Output:
+        refusal = _refusal(told)
+        if refusal is not None:
+            raise refusal
         kind = KINDS.get(told.kind)
-        if kind == "DROPPED":
-            raise Dropped(told.code)
-        if kind == "REFUSED":
-            raise Refused(told.code)
         if kind == "REPLY":
             return Reply(self._message().message, told.ike or None, told.child or None, told.closed or None)
         if kind == "REPEAT":
@@ -204,13 +219,27 @@ class Gateway:
             return Up(told.child, told.number, packet[told.offset : told.offset + told.length])
         if kind == "DUMMY":
             return Dummy(told.child, told.number)
-        if kind == "SEALED" and room is not None:
-            return Sealed(told.child, told.number, room.raw[: told.length])
+        if kind == "SEALED":
+            return Sealed(told.child, told.number, room[told.offset : told.offset + told.length])
         if kind == "CLEAR":
             return Clear(packet)
         if kind == "DISCARDED":
             return Discarded()
         raise CallFault(told.kind)
+
+
+def _refusal(told: _library.OutputRecord) -> Optional[Refusal]:
+    kind = KINDS.get(told.kind)
+    return Dropped(told.code) if kind == "DROPPED" else Refused(told.code) if kind == "REFUSED" else None
+
+
+# The packets one behind the other, and their places, each with its count.
+def _listed(packets: Sequence[bytes]) -> "Tuple[bytes, int, ctypes.Array[_library.PlaceRecord], int]":
+    octets = b"".join(packets)
+    ends = itertools.accumulate(len(packet) for packet in packets)
+    listed = (_library.PlaceRecord(offset=end - len(packet), length=len(packet)) for end, packet in zip(ends, packets))
+    places = (_library.PlaceRecord * len(packets))(*listed)
+    return octets, len(octets), places, len(packets)
 
 
 def _fresh(fresh: Optional[Fresh]) -> "ctypes._Pointer[_library.FreshRecord]":

@@ -1,4 +1,4 @@
-"""What comes of an input. IKE associations and children are named by their serials, from 1; None names nothing."""
+"""What comes of an input. IKE SAs and Child SAs are named by their serials, from 1; None names nothing."""
 
 from dataclasses import dataclass
 from typing import Optional, Tuple, Union
@@ -16,7 +16,7 @@ class Reply:
 
 @dataclass(frozen=True)
 class Repeat:
-    """A request that took effect before is answered by the same message again."""
+    """A retransmission of a request that took effect before is answered by the same message again."""
 
     message: bytes
 
@@ -48,7 +48,7 @@ class Resent:
 
 @dataclass(frozen=True)
 class Ticked:
-    """What a moment brought: requests that go out again, and associations that were closed since no answer came."""
+    """What a moment brought: requests that go out again, and IKE SAs that were closed since no answer came."""
 
     requests: Tuple[Resent, ...] = ()
     closed: Tuple[int, ...] = ()
@@ -56,7 +56,7 @@ class Ticked:
 
 @dataclass(frozen=True)
 class Done:
-    """An order was carried out."""
+    """A command was carried out."""
 
 
 @dataclass(frozen=True)

@@ -1,4 +1,4 @@
-"""What a gateway is made of, and what chance gives to an input."""
+"""What a gateway is made of, and the randomness of an input."""
 
 import enum
 import ipaddress
@@ -85,7 +85,7 @@ def padded(address: Address) -> bytes:
 
 @dataclass(frozen=True)
 class Fresh:
-    """What chance gives to one input. Without values it is drawn of the system; give values only in tests that have to come out the
+    """The randomness of one input. Without values it is drawn of the system; give values only in tests that have to come out the
     same."""
 
     spi: int = field(default_factory=lambda: secrets.randbits(64))

@@ -27,7 +27,7 @@ class Selector:
 
 @dataclass(frozen=True)
 class Child:
-    """One inbound and one outbound association of ESP. One that isn't live carries nothing outward. `sent` is the last number that it sent,
+    """One inbound and one outbound SA of ESP. One that isn't live carries nothing outward. `sent` is the last number that it sent,
     `taken` the greatest that it took, each 0 where there is none."""
 
     serial: int
@@ -43,14 +43,14 @@ class Child:
 
 
 class Role(enum.IntEnum):
-    """Which end began an IKE association."""
+    """Which end began an IKE SA."""
 
     INITIATOR = 1
     RESPONDER = 2
 
 
 class Phase(enum.IntEnum):
-    """How far an IKE association is."""
+    """How far an IKE SA is."""
 
     ASKED = 1
     PROVING = 2
@@ -61,7 +61,7 @@ class Phase(enum.IntEnum):
 
 @dataclass(frozen=True)
 class Association:
-    """An IKE association. `window` is how many requests at once the peer takes; `moment` is when it was made, of one half open, or when it
+    """An IKE SA. `window` is how many requests at once the peer takes; `moment` is when it was made, of one half open, or when it
     was closed, else 0."""
 
     serial: int

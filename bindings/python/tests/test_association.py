@@ -1,4 +1,4 @@
-"""One ESP association, beside what Python's own hmac makes."""
+"""One ESP SA, beside what Python's own hmac makes."""
 
 import hashlib
 import hmac

@@ -1,11 +1,12 @@
 """Two gateways, brought up against each other in memory."""
 
+import itertools
 import unittest
 from ipaddress import IPv4Address
-from typing import Tuple
+from typing import Iterator, Optional, Tuple
 
-from sukperin import (Action, CallFault, Clear, Counted, Discarded, Done, Entry, Fresh, Gateway, Phase, Refusal, Repeat, Reply, Request,
-                      Role, Sealed, Ticked, Up)
+from sukperin import (Action, CallFault, Clear, Counted, Discarded, Done, Dropped, Entry, Fresh, Gateway, Phase, Refusal, Repeat,
+                      Reply, Request, Role, Sealed, Ticked, Up)
 
 OWN, PEER = "10.0.0.0/24", "10.1.0.0/24"
 
@@ -27,14 +28,38 @@ def carried(request, to: Gateway, back: Gateway):  # type: ignore[no-untyped-def
     return output
 
 
-def up() -> Tuple[Gateway, Gateway]:
+def drawn() -> Iterator[Fresh]:
+    """The same octets for each two gateways, so that they are twins: never do this outside a test."""
+    for count in itertools.count(1):
+        yield Fresh(spi=count, nonce=bytes([count]) * 32, secret=bytes([count + 100]) * 32, seal=bytes([count + 200]) * 16)
+
+
+def up(octets: Optional[Iterator[Fresh]] = None) -> Tuple[Gateway, Gateway]:
     a, b = two()
-    assert carried(a.start(), b, a) == Counted(1, 1, None)
+    octets = octets or iter(Fresh, None)
+    output = a.start(fresh=next(octets))
+    while isinstance(output, Request):
+        reply = b.ike(output.message, fresh=next(octets))
+        output = a.ike(reply.message, fresh=next(octets))
+    assert output == Counted(1, 1, None)
     return a, b
 
 
-def packet(source: str, target: str) -> bytes:
-    return bytes([0x45, 0, 0, 20, 0, 0, 0, 0, 64, 1, 0, 0]) + IPv4Address(source).packed + IPv4Address(target).packed
+def packet(source: str, target: str, payload: bytes = b"") -> bytes:
+    head = bytes([0x45, 0, 0, 20 + len(payload), 0, 0, 0, 0, 64, 1, 0, 0])
+    return head + IPv4Address(source).packed + IPv4Address(target).packed + payload
+
+
+def readable(outputs):  # type: ignore[no-untyped-def]
+    """Outputs that can be compared: of a refusal its class and its number."""
+    return [(type(each), each.number) if isinstance(each, Refusal) else each for each in outputs]
+
+
+def single(call, octets: bytes):  # type: ignore[no-untyped-def]
+    try:
+        return call(octets)
+    except Refusal as refusal:
+        return type(refusal), refusal.number
 
 
 class Gateways(unittest.TestCase):
@@ -84,6 +109,35 @@ class Gateways(unittest.TestCase):
         self.assertIsInstance(a.ike(reply.message), Counted)
         self.refuses(31, a.ike, reply.message)
         self.refuses(33, a.ike, request.message)
+
+    def test_lists_are_as_single_calls(self) -> None:
+        (a, b), (twin_a, twin_b) = up(drawn()), up(drawn())
+        out = []
+        for place in range(150):
+            target = {3: "10.9.0.1", 4: "10.8.0.1"}.get(place % 6, "10.1.0.1")
+            whole = packet("10.0.0.1", target, bytes(range(place % 50)))
+            out.append(whole[:-1] if place % 6 == 5 else whole)
+        told = a.outward_all(out)
+        self.assertEqual(readable(told), [single(twin_a.outward, each) for each in out])
+        self.assertEqual({type(each) for each in told}, {Sealed, Clear, Discarded, Dropped})
+
+        packets = []
+        for place, each in enumerate(each for each in told if isinstance(each, Sealed)):
+            octets = each.packet
+            packets.append(octets[:-1] if place % 9 == 3 else octets[:-1] + bytes([octets[-1] ^ 1]) if place % 9 == 4 else octets)
+            if place % 9 == 5:
+                packets.append(octets)
+            if place % 9 == 6:
+                packets += [b"", b"\xff" + octets[1:]]
+        came = b.esp_all(packets)
+        self.assertEqual(readable(came), [single(twin_b.esp, each) for each in packets])
+        self.assertEqual({each.number for each in came if isinstance(each, Refusal)}, {14, 16, 18, 28})
+        self.assertEqual(b.children(), twin_b.children())
+        self.assertEqual((a.outward_all([]), b.esp_all([])), ([], []))
+        a.close()
+        with self.assertRaises(CallFault) as caught:
+            a.outward_all(out)
+        self.assertEqual(caught.exception.code, 101)
 
     def test_tables(self) -> None:
         a, b = up()

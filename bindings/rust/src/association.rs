@@ -1,4 +1,4 @@
-//! The two ends of one ESP association (RFC 4303) under a key that is given.
+//! The two ends of one ESP SA (RFC 4303) under a key that is given.
 
 use crate::calls::AssociationHandle;
 use crate::ffi;

@@ -5,6 +5,7 @@
 //! what is written overlaps nothing that is read, since `&mut` and `&` don't.
 
 use crate::ffi;
+use crate::list::Record;
 
 /// A handle of a gateway, freed when it is dropped.
 pub struct GatewayHandle(ffi::Gateway);
@@ -120,6 +121,44 @@ impl GatewayHandle {
         }
     }
 
+    pub fn esp_all(&mut self, octets: &[u8], places: &[ffi::Place], told: &mut [Record]) -> u32 {
+        unsafe {
+            ffi::suk_esp_all(
+                &mut self.0,
+                octets.as_ptr(),
+                octets.len(),
+                places.as_ptr(),
+                places.len(),
+                // A record is an `ffi::Output` and nothing else.
+                told.as_mut_ptr().cast(),
+                told.len(),
+            )
+        }
+    }
+
+    pub fn outward_all(
+        &mut self,
+        octets: &[u8],
+        places: &[ffi::Place],
+        room: &mut [u8],
+        told: &mut [Record],
+    ) -> u32 {
+        unsafe {
+            ffi::suk_outward_all(
+                &mut self.0,
+                octets.as_ptr(),
+                octets.len(),
+                places.as_ptr(),
+                places.len(),
+                room.as_mut_ptr(),
+                room.len(),
+                // A record is an `ffi::Output` and nothing else.
+                told.as_mut_ptr().cast(),
+                told.len(),
+            )
+        }
+    }
+
     pub fn inward(&mut self, packet: &[u8], told: &mut ffi::Output) -> u32 {
         unsafe { ffi::suk_inward(&mut self.0, packet.as_ptr(), packet.len(), told) }
     }
@@ -151,7 +190,7 @@ impl GatewayHandle {
     }
 }
 
-/// A handle of one end of an ESP association, freed when it is dropped.
+/// A handle of one end of an ESP SA, freed when it is dropped.
 pub struct AssociationHandle(ffi::End);
 
 impl Drop for AssociationHandle {

@@ -6,7 +6,7 @@ use std::fmt;
 #[derive(Clone, Copy, Debug, PartialEq, Eq)]
 #[non_exhaustive]
 pub enum Error {
-    /// E20: there was no memory. The same input may be given again.
+    /// E20: out of memory. The same input may be given again.
     Memory,
     /// 101: the handle leads to nothing, or to an end of another kind. Never comes of this crate.
     NoEnd,
@@ -21,10 +21,12 @@ pub enum Error {
     /// or an address and a length are no prefix.
     Policy,
     /// 107: an SPI is out of its range: the first one of a gateway isn't from 256 to 2^32 - 65,536, or the one of an
-    /// association is below 256.
+    /// ESP SA is below 256.
     Spi,
     /// 108: there is no such thing to tell.
     Nothing,
+    /// 109: a packet's place isn't in the buffer.
+    Place,
     /// A [`Sender`](crate::Sender) or [`Receiver`](crate::Receiver) refuses a packet.
     Refused(Refusal),
     /// The library answers a code or a kind that this crate doesn't know, or 0 where it tells a place outside the octets: it is another one
@@ -44,6 +46,7 @@ impl Error {
             Error::Policy => 106,
             Error::Spi => 107,
             Error::Nothing => 108,
+            Error::Place => 109,
             Error::Refused(refusal) => u32::from(refusal.number()),
             Error::Unknown(code) => code,
         }
@@ -61,6 +64,7 @@ impl Error {
             106 => Err(Error::Policy),
             107 => Err(Error::Spi),
             108 => Err(Error::Nothing),
+            109 => Err(Error::Place),
             _ => Err(Refusal::of_code(code).map_or(Error::Unknown(code), Error::Refused)),
         }
     }
@@ -69,7 +73,7 @@ impl Error {
 impl fmt::Display for Error {
     fn fmt(&self, f: &mut fmt::Formatter<'_>) -> fmt::Result {
         let text = match self {
-            Error::Memory => "E20: no memory",
+            Error::Memory => "E20: out of memory",
             Error::NoEnd => "the handle leads to nothing, or to an end of another kind",
             Error::InUse => "the handle leads to something already",
             Error::Room => "the room is too short",
@@ -77,6 +81,7 @@ impl fmt::Display for Error {
             Error::Policy => "an entry of the policy is at fault",
             Error::Spi => "an SPI is out of its range",
             Error::Nothing => "there is no such thing to tell",
+            Error::Place => "a packet's place isn't in the buffer",
             Error::Refused(refusal) => return refusal.fmt(f),
             Error::Unknown(code) => {
                 return write!(f, "the library tells {code}, which is unknown here")
@@ -137,7 +142,7 @@ const TEXTS: [(u8, &str); 39] = [
     (7, "the nonce has a wrong length"),
     (8, "a field is malformed"),
     (9, "the message is too long"),
-    (10, "no memory"),
+    (10, "out of memory"),
     (11, "more than 8160 octets of key material"),
     (12, "the sequence numbers are exhausted"),
     (13, "the payload has more than 16384 octets"),
@@ -145,17 +150,17 @@ const TEXTS: [(u8, &str); 39] = [
     (15, "the number lies below the replay window"),
     (16, "the number was taken already"),
     (17, "the packet has no sequence number"),
-    (18, "the check value is wrong"),
+    (18, "the ICV is wrong"),
     (19, "the padding is wrong"),
-    (20, "no memory"),
+    (20, "out of memory"),
     (21, "not a whole IP packet"),
     (22, "a fragment of a packet"),
     (23, "no entry that protects, or outside the selectors"),
-    (24, "no memory for the selectors"),
-    (25, "the table is full, or 128 IKE associations are held"),
+    (24, "out of memory for the selectors"),
+    (25, "the table is full, or 128 IKE SAs are held"),
     (26, "the inbound SPIs are spent"),
-    (27, "no memory for the table"),
-    (28, "no such association"),
+    (27, "out of memory for the table"),
+    (28, "no such IKE SA, Child SA or SPI"),
     (29, "the message doesn't open"),
     (
         30,
@@ -164,13 +169,13 @@ const TEXTS: [(u8, &str); 39] = [
     (31, "the number lies outside the window"),
     (
         32,
-        "the association is in another phase, or this message is not due to it",
+        "the IKE SA is in another phase, or this message is not due to it",
     ),
     (33, "the message claims the role of this end"),
-    (34, "too many associations are half open or held"),
+    (34, "too many IKE SAs are half open or held"),
     (
         35,
-        "the peer's window is full, or the association is being deleted",
+        "the peer's window is full, or the IKE SA is being deleted",
     ),
     (36, "the numbers are spent"),
     (37, "the fresh SPI is zero or in use"),

@@ -104,6 +104,16 @@ pub struct Output {
     pub length: u64,
 }
 
+/// Where a packet of a list is in its buffer.
+#[repr(C)]
+#[derive(Clone, Copy, Debug, Default, PartialEq, Eq)]
+pub struct Place {
+    /// Where it begins.
+    pub offset: u64,
+    /// How many octets it has.
+    pub length: u64,
+}
+
 #[repr(C)]
 #[derive(Clone, Copy, Default)]
 pub struct Message {
@@ -235,6 +245,26 @@ extern "C" {
         room: *mut u8,
         room_length: usize,
         output: *mut Output,
+    ) -> u32;
+    pub fn suk_esp_all(
+        gateway: *mut Gateway,
+        octets: *const u8,
+        octets_length: usize,
+        places: *const Place,
+        place_count: usize,
+        outputs: *mut Output,
+        output_count: usize,
+    ) -> u32;
+    pub fn suk_outward_all(
+        gateway: *mut Gateway,
+        octets: *const u8,
+        octets_length: usize,
+        places: *const Place,
+        place_count: usize,
+        room: *mut u8,
+        room_length: usize,
+        outputs: *mut Output,
+        output_count: usize,
     ) -> u32;
     pub fn suk_inward(
         gateway: *mut Gateway,

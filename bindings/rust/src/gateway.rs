@@ -2,11 +2,13 @@
 
 use crate::calls::GatewayHandle;
 use crate::ffi;
-use crate::{Association, Child, Config, Entry, Error, Fresh, Output, Refusal, Resent};
+use crate::{
+    Association, Child, Config, Entry, Error, Fresh, Output, Place, Record, Refusal, Resent,
+};
 use std::fmt;
 use std::net::Ipv4Addr;
 
-/// A gateway: the machine of IKE and the path of packets with one peer, over one table of associations and one policy.
+/// A gateway: the machine of IKE and the path of packets with one peer, over one table of SAs and one policy.
 ///
 /// It stays on the thread that made it. When it is dropped its memory is freed, but not wiped.
 pub struct Gateway {
@@ -14,9 +16,9 @@ pub struct Gateway {
 }
 
 impl Gateway {
-    /// A gateway of this configuration and policy, with no association.
+    /// A gateway of this configuration and policy, with no IKE SA.
     ///
-    /// [`Error::Configuration`], [`Error::Spi`] and [`Error::Policy`] tell what can't be used, and [`Error::Memory`] that there is none.
+    /// [`Error::Configuration`], [`Error::Spi`] and [`Error::Policy`] tell what can't be used, and [`Error::Memory`] that memory ran out.
     pub fn new(config: &Config<'_>, policy: &[Entry]) -> Result<Gateway, Error> {
         let entries: Vec<ffi::Entry> =
             policy.iter().map(Entry::record).collect::<Result<_, _>>()?;
@@ -34,7 +36,7 @@ impl Gateway {
 
     /// A datagram of IKE that came from this address, without its UDP header (and without the four zeros of port 4500).
     ///
-    /// Gives a reply, a repeat, a request, `Counted`, `Dropped` or `Refused`.
+    /// Gives a reply, a repeated reply, a request, `Counted`, `Dropped` or `Refused`.
     pub fn ike(
         &mut self,
         from: Ipv4Addr,
@@ -49,11 +51,11 @@ impl Gateway {
         self.output_of_ike(&told)
     }
 
-    /// The order to ask the peer for a child by an entry of the policy, its place counted from 0: with a new IKE association, or as
-    /// a further child of the one that is named.
+    /// The command to ask the peer for a Child SA by an entry of the policy, its place counted from 0: with a new IKE SA, or as an
+    /// additional one of the IKE SA that is named.
     ///
     /// Gives a request, or `Refused`: E23 where there is no such entry or it doesn't protect, E25 and E26 where the table is full or its
-    /// SPIs are spent, E28, E32, E35 and E36 of the association, E37 of the fresh SPI.
+    /// SPIs are spent, E28, E32, E35 and E36 of the IKE SA, E37 of the fresh SPI.
     pub fn start(
         &mut self,
         ike: Option<u32>,
@@ -68,7 +70,7 @@ impl Gateway {
         self.output_of_ike(&told)
     }
 
-    /// The order to ask the peer of an association whether it is there (RFC 7296 section 2.4).
+    /// The command to ask the peer of an IKE SA whether it is there (RFC 7296 section 2.4).
     ///
     /// Gives a request, or `Refused` (E28, E32, E35, E36).
     pub fn probe(&mut self, ike: u32, fresh: Fresh) -> Result<Output<'static>, Error> {
@@ -77,7 +79,7 @@ impl Gateway {
         self.output_of_ike(&told)
     }
 
-    /// The order to delete a child: from then on it carries nothing outward, and it goes with the peer's answer.
+    /// The command to delete a Child SA: from then on it carries nothing outward, and it goes with the peer's answer.
     ///
     /// Gives a request, or `Refused` (E28, E32, E35, E36).
     pub fn delete_child(&mut self, child: u32, fresh: Fresh) -> Result<Output<'static>, Error> {
@@ -86,7 +88,7 @@ impl Gateway {
         self.output_of_ike(&told)
     }
 
-    /// The order to delete an association with all its children.
+    /// The command to delete an IKE SA with all its Child SAs.
     ///
     /// Gives a request, or `Refused` (E28, E32, E35, E36).
     pub fn delete_ike(&mut self, ike: u32, fresh: Fresh) -> Result<Output<'static>, Error> {
@@ -95,7 +97,7 @@ impl Gateway {
         self.output_of_ike(&told)
     }
 
-    /// The order to make cookies under another secret, of unpredictable octets. The one before stays good.
+    /// The command to make cookies under another secret, of unpredictable octets. The one before stays good.
     ///
     /// Gives `Done`, or `Refused` (E36).
     pub fn secret(&mut self, secret: &[u8; 32]) -> Result<Output<'static>, Error> {
@@ -106,7 +108,7 @@ impl Gateway {
 
     /// The time, in milliseconds from any beginning. An earlier moment counts as the greatest so far.
     ///
-    /// Gives `Ticked`, or `Refused` for want of memory.
+    /// Gives `Ticked`, or `Refused` where it is out of memory.
     pub fn tick(&mut self, moment: u64) -> Result<Output<'static>, Error> {
         let mut told = ffi::Output::default();
         Error::check(self.handle.tick(moment, &mut told))?;
@@ -142,6 +144,36 @@ impl Gateway {
         output_of_packet(&told, packet, room)
     }
 
+    /// ESP packets that came, each in its place in one buffer: as so many calls of [`Gateway::esp`] in their order, with a record for
+    /// each. Up to 64 at a time have their ICVs computed side by side.
+    ///
+    /// [`Error::Room`] where there are fewer records than places, and then nothing was done. [`Record::output`] tells what came of a
+    /// packet; one whose place isn't in the buffer is refused alone.
+    pub fn esp_all(
+        &mut self,
+        octets: &[u8],
+        places: &[Place],
+        records: &mut [Record],
+    ) -> Result<(), Error> {
+        Error::check(self.handle.esp_all(octets, places, records))
+    }
+
+    /// Whole packets on their way out, each in its place in one buffer: as so many calls of [`Gateway::outward`] in their order, with a
+    /// record for each. Sealed packets lie one behind the other in the room from its beginning; [`room_for`](crate::room_for) each
+    /// packet's octets, added up, are always enough.
+    ///
+    /// [`Error::Room`] where there are fewer records than places, and then nothing was done. [`Record::output`] tells what came of a
+    /// packet; one whose place isn't in the buffer, or for which too little of the room is left, is refused alone.
+    pub fn outward_all(
+        &mut self,
+        octets: &[u8],
+        places: &[Place],
+        room: &mut [u8],
+        records: &mut [Record],
+    ) -> Result<(), Error> {
+        Error::check(self.handle.outward_all(octets, places, room, records))
+    }
+
     /// A whole packet that came in unprotected.
     ///
     /// Gives `Clear`, `Discarded` (also where the policy protects its flow) or `Dropped`.
@@ -151,7 +183,7 @@ impl Gateway {
         output_of_packet(&told, packet, &[])
     }
 
-    /// The children, by rising serial. An association's first child is there from the answer of IKE_AUTH on.
+    /// The Child SAs, by rising serial. An IKE SA's first child is there from the answer of IKE_AUTH on.
     pub fn children(&mut self) -> Result<Vec<Child>, Error> {
         let mut children = Vec::new();
         let mut after = 0;
@@ -164,7 +196,7 @@ impl Gateway {
         Ok(children)
     }
 
-    /// The IKE associations that are held, those half open or closed among them.
+    /// The IKE SAs that are held, those half open or closed among them.
     pub fn associations(&mut self) -> Result<Vec<Association>, Error> {
         let mut room = [ffi::Association::default(); 160];
         let mut count = 0;
@@ -253,7 +285,7 @@ impl fmt::Debug for Gateway {
     }
 }
 
-fn output_of_packet<'p>(
+pub(crate) fn output_of_packet<'p>(
     told: &ffi::Output,
     packet: &'p [u8],
     room: &'p [u8],
@@ -271,7 +303,7 @@ fn output_of_packet<'p>(
         ffi::SUK_SEALED => Output::Sealed {
             child: told.child,
             number: told.number,
-            octets: part(room, 0, told.length)?,
+            octets: part(room, told.offset, told.length)?,
         },
         ffi::SUK_CLEAR => Output::Clear { packet },
         ffi::SUK_DISCARDED => Output::Discarded,

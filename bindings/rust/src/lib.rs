@@ -2,14 +2,14 @@
 //! HMAC-SHA-256-128, with one peer.
 //!
 //! A [`Gateway`] has no socket, clock, thread or random source of its own. The host gives it what came ([`Gateway::ike`],
-//! [`Gateway::esp`], [`Gateway::outward`], [`Gateway::inward`]), orders ([`Gateway::start`] and the calls below it) and the time
+//! [`Gateway::esp`], [`Gateway::outward`], [`Gateway::inward`]), commands ([`Gateway::start`] and the calls below it) and the time
 //! ([`Gateway::tick`]), and carries out what each [`Output`] says. docs/OPERATING.md of the repository tells what is left to
 //! the host.
 //!
 //! Each input either is taken, and then it gives an [`Output`] (that something is dropped is an output too), or it fails with an
 //! [`Error`] and has done nothing. By the way that this crate uses the library, [`Error::NoEnd`] and [`Error::InUse`] never come.
 //!
-//! [`Sender`] and [`Receiver`] are the two ends of one ESP association under a key that is given: for tests, and to judge packets of
+//! [`Sender`] and [`Receiver`] are the two ends of one ESP SA under a key that is given: for tests, and to judge packets of
 //! another stack.
 //!
 //! ```no_run
@@ -54,6 +54,7 @@ mod ffi;
 mod association;
 mod error;
 mod gateway;
+mod list;
 mod output;
 mod settings;
 mod tables;
@@ -61,6 +62,7 @@ mod tables;
 pub use association::{Opened, Receiver, Sealed, Sender};
 pub use error::{Error, Refusal};
 pub use gateway::Gateway;
+pub use list::{Place, Record};
 pub use output::{Output, Resent};
 pub use settings::{Action, Config, End, Entry, Fresh, Identity, Range};
 pub use tables::{Association, Child, Phase, Role, Selector};

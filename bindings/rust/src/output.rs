@@ -2,7 +2,7 @@
 
 use crate::Refusal;
 
-/// What comes of an input. IKE associations and children are named by their serials, from 1.
+/// What comes of an input. IKE SAs and Child SAs are named by their serials, from 1.
 ///
 /// Octets of ESP packets and of what they carry are lent: parts of the packet that was given, or of the room. Messages of IKE are
 /// the output's own.
@@ -12,46 +12,46 @@ pub enum Output<'a> {
     Reply {
         /// The message, of at most 3000 octets.
         octets: Vec<u8>,
-        /// The association under whose keys it is sent; none of an answer to IKE_SA_INIT.
+        /// The IKE SA under whose keys it is sent; none of an answer to IKE_SA_INIT.
         ike: Option<u32>,
-        /// The child that it made.
+        /// The Child SA that it made.
         child: Option<u32>,
-        /// The association that it closed.
+        /// The IKE SA that it closed.
         closed: Option<u32>,
     },
-    /// A request that took effect before is answered by the same octets again.
+    /// A retransmission of a request that took effect before is answered by the same octets again.
     Repeat {
         /// The message.
         octets: Vec<u8>,
     },
     /// A request of this end goes out, by UDP, to the peer.
     Request {
-        /// The association.
+        /// The IKE SA.
         ike: u32,
         /// The message.
         octets: Vec<u8>,
     },
     /// A response was counted.
     Counted {
-        /// The association.
+        /// The IKE SA.
         ike: u32,
-        /// The child that it made.
+        /// The Child SA that it made.
         child: Option<u32>,
-        /// The association that it closed.
+        /// The IKE SA that it closed.
         closed: Option<u32>,
     },
     /// What a moment brought.
     Ticked {
-        /// The requests that go out again, by rising serial of their association and rising number.
+        /// The requests that go out again, by rising serial of their IKE SA and rising number.
         requests: Vec<Resent>,
-        /// The associations that were closed, since no answer came.
+        /// The IKE SAs that were closed, since no answer came.
         closed: Vec<u32>,
     },
-    /// An order was carried out.
+    /// A command was carried out.
     Done,
     /// What an ESP packet carried goes up, inside. It is checked: it doesn't go through [`Gateway::inward`](crate::Gateway::inward).
     Up {
-        /// The child that it came by.
+        /// The Child SA that it came by.
         child: u32,
         /// The packet's sequence number.
         number: u64,
@@ -60,14 +60,14 @@ pub enum Output<'a> {
     },
     /// An ESP packet carried nothing (RFC 4303 section 2.6).
     Dummy {
-        /// The child that it came by.
+        /// The Child SA that it came by.
         child: u32,
         /// Its sequence number.
         number: u64,
     },
     /// A packet goes out protected: by IP, as protocol 50, to the peer.
     Sealed {
-        /// The child that it goes by.
+        /// The Child SA that it goes by.
         child: u32,
         /// Its sequence number.
         number: u64,
@@ -120,7 +120,7 @@ impl Output<'_> {
 /// A request that goes out again.
 #[derive(Clone, Debug, PartialEq, Eq)]
 pub struct Resent {
-    /// The association.
+    /// The IKE SA.
     pub ike: u32,
     /// The message.
     pub octets: Vec<u8>,

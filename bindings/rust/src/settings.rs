@@ -1,4 +1,4 @@
-//! What a gateway is made of, and what chance gives to an input.
+//! What a gateway is made of, and the randomness of an input.
 
 use crate::{ffi, Error};
 use std::fmt;
@@ -184,7 +184,7 @@ pub enum Action {
     Discard,
     /// They go on as they are.
     Bypass,
-    /// They go by an ESP association, or not at all.
+    /// They go by an ESP SA, or not at all.
     Protect,
 }
 
@@ -260,7 +260,7 @@ impl Entry {
     }
 }
 
-/// What chance gives to one input. It can't be copied, and an input takes it: draw another one for each, also after one that
+/// The randomness of one input. It can't be copied, and an input takes it: draw another one for each, also after one that
 /// was refused. If a nonce and a secret came again, keys would.
 pub struct Fresh(pub(crate) ffi::Fresh);
 

@@ -1,15 +1,15 @@
-//! What a gateway holds: its children, and its IKE associations.
+//! What a gateway holds: its Child SAs, and its IKE SAs.
 
 use crate::ffi;
 use crate::Range;
 use std::net::{Ipv4Addr, Ipv6Addr};
 
-/// A child: one inbound and one outbound association of ESP.
+/// A Child SA: one inbound and one outbound SA of ESP.
 #[derive(Clone, Debug, PartialEq, Eq)]
 pub struct Child {
     /// Its serial, from 1.
     pub serial: u32,
-    /// The serial of its IKE association.
+    /// The serial of its IKE SA.
     pub ike: u32,
     /// The SPI under which this end receives.
     pub spi_in: u32,
@@ -75,7 +75,7 @@ fn first_four(octets: &[u8; 16]) -> Ipv4Addr {
     Ipv4Addr::new(octets[0], octets[1], octets[2], octets[3])
 }
 
-/// Which end began an IKE association.
+/// Which end began an IKE SA.
 #[derive(Clone, Copy, Debug, PartialEq, Eq)]
 pub enum Role {
     /// This one.
@@ -84,7 +84,7 @@ pub enum Role {
     Responder,
 }
 
-/// How far an IKE association is.
+/// How far an IKE SA is.
 #[derive(Clone, Copy, Debug, PartialEq, Eq)]
 pub enum Phase {
     /// This end sent its IKE_SA_INIT request.
@@ -99,7 +99,7 @@ pub enum Phase {
     Closed,
 }
 
-/// An IKE association.
+/// An IKE SA.
 #[derive(Clone, Debug, PartialEq, Eq)]
 pub struct Association {
     /// Its serial, from 1.

@@ -1,4 +1,4 @@
-//! One ESP association under a given key.
+//! One ESP SA under a given key.
 
 use sukperin::{room_for, Error, Receiver, Refusal, Sender};
 

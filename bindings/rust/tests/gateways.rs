@@ -2,11 +2,11 @@
 
 use std::net::Ipv4Addr;
 use sukperin::{
-    room_for, Action, Config, End, Entry, Error, Fresh, Gateway, Identity, Output, Phase, Range,
-    Role,
+    room_for, Action, Config, End, Entry, Error, Fresh, Gateway, Identity, Output, Phase, Place,
+    Range, Record, Role,
 };
 
-// What chance gives comes of a counter, so that each run is the same: never do this outside a test.
+// Randomness comes of a counter, so that each run is the same: never do this outside a test.
 struct Chance(u8);
 
 impl Chance {
@@ -154,6 +154,135 @@ fn the_policy_decides() {
     assert_eq!(world.b.inward(&packet(0, 1)), Ok(Output::Discarded));
     assert_eq!(number(world.b.inward(&passing[..19]).unwrap()), Some(21));
     assert_eq!(world.a.outward(&passing, &mut [0; 48]), Err(Error::Room));
+}
+
+// Packets one behind the other, with their places.
+#[derive(Default)]
+struct List {
+    octets: Vec<u8>,
+    places: Vec<Place>,
+}
+
+impl List {
+    fn add(&mut self, packet: &[u8]) {
+        let start = self.octets.len();
+        self.octets.extend_from_slice(packet);
+        self.places.push(Place::from(start..self.octets.len()));
+    }
+
+    fn packet(&self, index: usize) -> &[u8] {
+        let Place { offset, length } = self.places[index];
+        &self.octets[offset as usize..][..length as usize]
+    }
+
+    fn records(&self) -> Vec<Record> {
+        vec![Record::default(); self.places.len()]
+    }
+}
+
+// Of 150 packets, some in the clear, discarded and damaged.
+fn list_outward() -> List {
+    let mut list = List::default();
+    for index in 0..150 {
+        let to = match index % 6 {
+            3 => 9,
+            4 => 8,
+            _ => 1,
+        };
+        let mut whole = packet(0, to).to_vec();
+        whole[3] += index % 50;
+        whole.extend(0..index % 50);
+        whole.truncate(whole.len() - usize::from(index % 6 == 5));
+        list.add(&whole);
+    }
+    list
+}
+
+#[test]
+fn lists_are_as_single_calls() {
+    // Made of the same octets, so what the one answers its twin does.
+    let (mut world, mut twin) = (World::up(), World::up());
+    let out = list_outward();
+    let mut room = vec![0; out.octets.len() + out.places.len() * room_for(0)];
+    let mut records = out.records();
+    let told = world
+        .a
+        .outward_all(&out.octets, &out.places, &mut room, &mut records);
+    assert_eq!(told, Ok(()));
+    let (mut list, mut end, mut kinds) = (List::default(), 0, [0; 4]);
+    for (index, record) in records.iter().enumerate() {
+        let mut single = [0; 128];
+        let output = record.output(out.places[index], &out.octets, &room);
+        assert_eq!(output, twin.a.outward(out.packet(index), &mut single));
+        match output.unwrap() {
+            Output::Sealed { octets, .. } => {
+                assert_eq!(octets.as_ptr(), room[end..].as_ptr());
+                end += octets.len();
+                kinds[0] += 1;
+                let mut came = octets.to_vec();
+                match index % 8 {
+                    1 => came[20] ^= 1,
+                    2 => came[0] ^= 1,
+                    3 => came.truncate(20),
+                    6 => list.add(&came),
+                    _ => {}
+                }
+                list.add(&came);
+            }
+            Output::Clear { .. } => kinds[1] += 1,
+            Output::Discarded => kinds[2] += 1,
+            Output::Dropped { .. } => kinds[3] += 1,
+            other => panic!("{other:?}"),
+        }
+    }
+    assert_eq!(kinds, [75, 25, 25, 25]);
+
+    let mut records = list.records();
+    let told = world.b.esp_all(&list.octets, &list.places, &mut records);
+    assert_eq!(told, Ok(()));
+    let mut numbers = Vec::new();
+    for (index, record) in records.iter().enumerate() {
+        let output = record.output(list.places[index], &list.octets, &[]);
+        assert_eq!(output, twin.b.esp(list.packet(index)));
+        numbers.extend(number(output.unwrap()));
+    }
+    for wanted in [14, 16, 18, 28] {
+        assert!(numbers.contains(&wanted), "{numbers:?}");
+    }
+    assert_eq!(world.b.children(), twin.b.children());
+}
+
+#[test]
+fn packets_of_a_list_that_are_refused_alone() {
+    let mut world = World::up();
+    let mut list = List::default();
+    list.add(&packet(0, 1));
+    list.places.push(Place::from(1..21));
+    list.add(&packet(0, 1));
+    list.add(&packet(0, 1));
+    list.places[1].length = u64::MAX;
+    let (octets, places) = (&list.octets, &list.places);
+    let mut room = [0; 48 + room_for(20) - 1];
+    let mut records = list.records();
+    let told = world.a.outward_all(octets, places, &mut room, &mut []);
+    assert_eq!(told, Err(Error::Room));
+    let told = world.a.esp_all(octets, places, &mut records[..3]);
+    assert_eq!(told, Err(Error::Room));
+    assert_eq!(world.a.children().unwrap()[0].sent, 0);
+    let unused = Record::default().output(places[0], octets, &room);
+    assert_eq!(unused, Err(Error::Unknown(0)));
+    let told = world.a.outward_all(octets, places, &mut room, &mut records);
+    assert_eq!(told, Ok(()));
+    let output = |index: usize| records[index].output(places[index], octets, &room);
+    assert!(matches!(output(0), Ok(Output::Sealed { number: 1, .. })));
+    assert_eq!(output(1), Err(Error::Place));
+    assert_eq!(output(2), Err(Error::Room));
+    assert_eq!(output(3), Err(Error::Room));
+    let told = world.b.esp_all(octets, places, &mut records);
+    assert_eq!(told, Ok(()));
+    let refused = records[1].output(places[1], octets, &[]);
+    assert_eq!(refused, Err(Error::Place));
+    assert_eq!(world.b.esp_all(&[], &[], &mut []), Ok(()));
 }
 
 #[test]

@@ -1,3 +1,4 @@
 pub mod AsBox
 pub mod AssociationLemmas
 pub mod HeldLemmas
+pub mod ListLemmas

@@ -1,7 +1,5 @@
 -- What is told of an output.
-use Rattle.std.specs.Prelude.{◌≡◌, ℕ, Option, None, Some, List, [], length}
-use Rattle.base.specs.Octets.{Octets}
-use Rattle.moments.specs.declared.resent.Resent.{Resent}
+use Rattle.std.specs.Prelude.{ℕ, Option, None, Some, length}
 use Rattle.ike.specs.declared.output.Trace.{Trace}
 use Rattle.gateway.specs.Faults.{code_of_reason}
 use Rattle.gateway.specs.Outputs.{OutputView}
@@ -10,6 +8,8 @@ use Rattle.gateway.specs.declared.fault.Reason.{Reason}
 use Rattle.sukperin.specs.declared.hosted.Left.{Left}
 use Rattle.sukperin.specs.declared.hosted.Left.TheVariants as left
 use Rattle.sukperin.specs.declared.output.SukOutput.{SukOutput}
+use Rattle.sukperin.specs.declared.refusal.Refusal.{Refusal}
+use Rattle.sukperin.specs.Codes.{code_of_refusal}
 
 -- 0 names nothing
 abbrev pub serial_of : Option ℕ → ℕ
@@ -38,6 +38,10 @@ of_kind kind = record {
   offset = 0;
   length = 0;
 }
+
+-- a packet of a list that the library refuses by itself
+abbrev pub refused_alone : Refusal → SukOutput
+refused_alone why = record (of_kind 13) { code = code_of_refusal why }
 
 abbrev pub with_code : ℕ → Reason → SukOutput
 with_code kind why = record (of_kind kind) { code = code_of_reason why }

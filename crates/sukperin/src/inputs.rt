@@ -218,7 +218,7 @@ pub extern "C" fn suk_outward(
 }
 
 // A packet goes out as itself and at most so many octets more.
-const PACKET_MORE: usize = 29;
+pub const PACKET_MORE: usize = 29;
 
 // A serial, where it is not 0.
 fn named(serial: u32) -> Option<u32>

@@ -33,8 +33,9 @@
 //! - Every call returns, whatever the octets and the codes, and each end that is made is freed at most
 //!   once.
 //!
-//! Not proved, beyond that they return and touch nothing else: what `suk_outward` does, what views tell,
-//! and that a new gateway is the one that its terms spell.
+//! Not proved, beyond that they return and touch nothing else: what `suk_outward` does, that the lists
+//! (`suk_esp_all`, `suk_outward_all`) are as so many single calls, what views tell, and that a new gateway
+//! is the one that its terms spell.
 //!
 //! # What is trusted to C
 //! - A handle begins as all zeros and is changed by these calls alone. It has one owner: it may be moved,
@@ -55,6 +56,7 @@ mod handle;
 mod held;
 mod hosted;
 mod inputs;
+mod lists;
 mod making;
 mod output;
 mod parts;

@@ -1,8 +1,9 @@
 //! What came of an input, as C reads it.
 ghost use Rattle.std.specs.Prelude.{◌≡◌};
 ghost use Rattle.gateway.specs.Outputs.{output_view};
-ghost use Rattle.sukperin.specs.Outputs.{child_in, ike_in, of_kind, serial_of, told_of, with_code};
+ghost use Rattle.sukperin.specs.Outputs.{child_in, ike_in, of_kind, refused_alone, serial_of, told_of, with_code};
 
+use crate::refusal::Refusal;
 use gateway::{Output, Reason, Trace};
 
 /// What came of an input. A serial that is 0 names nothing. What a kind doesn't tell is 0.
@@ -129,6 +130,16 @@ impl SukOutput {
             Output::Discarded => SukOutput::of_kind(11),
             Output::Dropped { reason } => SukOutput::with_code(12, *reason),
             Output::Refused { reason } => SukOutput::with_code(13, *reason),
+        }
+    }
+
+    // What is told of a packet of a list that this library refuses by itself.
+    pub fn refused(refusal: Refusal) -> SukOutput
+        ensures { result ≡ refused_alone refusal }
+    {
+        SukOutput {
+            code: refusal.code(),
+            ..SukOutput::of_kind(13)
         }
     }
 

@@ -30,6 +30,8 @@ pub enum Refusal {
     Spi,
     /// 108: there is no such thing to be told.
     Nothing,
+    /// 109: a packet's place doesn't lie in the buffer.
+    Place,
 }
 
 impl Refusal {
@@ -49,6 +51,7 @@ impl Refusal {
             Refusal::Policy => 106,
             Refusal::Spi => 107,
             Refusal::Nothing => 108,
+            Refusal::Place => 109,
         }
     }
 }

@@ -8,7 +8,7 @@ use super::tree::Node;
 /// What is done with a flow (RFC 4301, section 4.4.1).
 #[derive(Clone, Copy, Debug, PartialEq, Eq)]
 pub enum Action {
-    /// It goes through a child.
+    /// It goes through a Child SA.
     Protect,
     /// It goes in the clear.
     Bypass,

@@ -24,7 +24,7 @@ pub struct PeerConfig {
     pub name: String,
     /// Its address outside.
     pub address: Ipv4Addr,
-    /// Whether this end begins associations.
+    /// Whether this end begins IKE SAs.
     pub role: Role,
     /// Who this end is to it.
     pub own_identity: Identity,

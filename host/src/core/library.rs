@@ -5,12 +5,41 @@ use super::{Selector, Terms};
 use crate::config::{Action, Entry, Identity, PeerConfig, Range as AddressRange};
 use std::net::{IpAddr, Ipv4Addr};
 use std::ops::Range;
-use sukperin::Output;
+use sukperin::{Output, Place, Record};
 
 /// One gateway of the library.
 #[derive(Debug)]
 pub struct LibraryCore {
     gateway: sukperin::Gateway,
+    /// The places and the records of the last list. They are kept for the next one, so
+    /// that none is allocated anew.
+    places: Vec<Place>,
+    records: Vec<Record>,
+}
+
+impl LibraryCore {
+    /// Lays out a list for one call of the library, with a record for each packet.
+    fn list(&mut self, places: &[Range<usize>]) {
+        self.places.clear();
+        self.places.extend(places.iter().cloned().map(Place::from));
+        self.records.clear();
+        self.records.resize(places.len(), Record::default());
+    }
+
+    /// Adds what came of each packet of the list.
+    fn tell(
+        &self,
+        told: Result<(), sukperin::Error>,
+        octets: &[u8],
+        room: &[u8],
+        passed: &mut Vec<Passage>,
+    ) {
+        let listed = self.places.iter().zip(&self.records);
+        passed.extend(listed.map(|(place, record)| {
+            let output = told.and_then(|()| record.output(*place, octets, room));
+            passage(output, octets, room)
+        }));
+    }
 }
 
 impl Core for LibraryCore {
@@ -33,7 +62,11 @@ impl Core for LibraryCore {
             cookie_secret: *terms.cookie_secret,
         };
         sukperin::Gateway::new(&config, &policy_of(peer))
-            .map(|gateway| LibraryCore { gateway })
+            .map(|gateway| LibraryCore {
+                gateway,
+                places: Vec::new(),
+                records: Vec::new(),
+            })
             .map_err(|error| error.to_string())
     }
 
@@ -66,21 +99,11 @@ impl Core for LibraryCore {
     }
 
     fn esp(&mut self, octets: &[u8], places: &[Range<usize>], passed: &mut Vec<Passage>) {
-        for place in places {
-            let packet = &octets[place.clone()];
-            passed.push(match self.gateway.esp(packet) {
-                Ok(Output::Up {
-                    child,
-                    number,
-                    packet: carried,
-                }) => Passage::Up {
-                    child,
-                    number,
-                    place: moved(place_of(carried, packet), place.start),
-                },
-                other => passage(other),
-            });
-        }
+        self.list(places);
+        let told = self
+            .gateway
+            .esp_all(octets, &self.places, &mut self.records);
+        self.tell(told, octets, &[], passed);
     }
 
     fn outward(
@@ -90,28 +113,16 @@ impl Core for LibraryCore {
         room: &mut Vec<u8>,
         passed: &mut Vec<Passage>,
     ) {
-        let needed = places.iter().map(|place| sukperin::room_for(place.len()));
-        room.resize(needed.sum(), 0);
-        let mut start = 0;
-        for place in places {
-            let end = start + sukperin::room_for(place.len());
-            let packet = &octets[place.clone()];
-            let part = &mut room[start..end];
-            passed.push(match self.gateway.outward(packet, part) {
-                Ok(Output::Sealed {
-                    child,
-                    number,
-                    octets: sealed,
-                }) => Passage::Sealed {
-                    child,
-                    number,
-                    // The sealed packet is the beginning of its room.
-                    place: start..start + sealed.len(),
-                },
-                other => passage(other),
-            });
-            start = end;
+        self.list(places);
+        let each = places.iter().map(|place| sukperin::room_for(place.len()));
+        let needed = each.sum();
+        if room.len() < needed {
+            room.resize(needed, 0);
         }
+        let told = self
+            .gateway
+            .outward_all(octets, &self.places, room, &mut self.records);
+        self.tell(told, octets, room, passed);
     }
 
     fn children(&mut self) -> Vec<ChildTold> {
@@ -226,7 +237,7 @@ fn outcome(told: Told<'_>) -> Outcome {
         Output::Dropped { reason } | Output::Refused { reason } => Outcome::Refused {
             code: u32::from(reason.number()),
         },
-        // None of these comes of a message, an order or a moment.
+        // None of these comes of a message, a command or a moment.
         Output::Done
         | Output::Up { .. }
         | Output::Dummy { .. }
@@ -236,8 +247,26 @@ fn outcome(told: Told<'_>) -> Outcome {
     }
 }
 
-fn passage(told: Told<'_>) -> Passage {
+fn passage(told: Told<'_>, octets: &[u8], room: &[u8]) -> Passage {
     match told {
+        Ok(Output::Up {
+            child,
+            number,
+            packet,
+        }) => Passage::Up {
+            child,
+            number,
+            place: place_of(packet, octets),
+        },
+        Ok(Output::Sealed {
+            child,
+            number,
+            octets: sealed,
+        }) => Passage::Sealed {
+            child,
+            number,
+            place: place_of(sealed, room),
+        },
         Ok(Output::Dummy { child, number }) => Passage::Dummy { child, number },
         Ok(Output::Clear { .. }) => Passage::Clear,
         Ok(Output::Dropped { reason } | Output::Refused { reason }) => Passage::Refused {
@@ -254,8 +283,4 @@ fn passage(told: Told<'_>) -> Passage {
 fn place_of(part: &[u8], whole: &[u8]) -> Range<usize> {
     let start = (part.as_ptr() as usize).saturating_sub(whole.as_ptr() as usize);
     start..start + part.len()
-}
-
-fn moved(place: Range<usize>, by: usize) -> Range<usize> {
-    place.start + by..place.end + by
 }

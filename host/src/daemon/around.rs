@@ -51,7 +51,7 @@ impl<'a, S: System> Around<'a, S> {
         }
     }
 
-    /// Octets of chance for one input.
+    /// Random octets for one input.
     pub(super) fn fresh(&mut self) -> Result<Fresh, Stop> {
         self.draw().map(Fresh::new)
     }

@@ -21,7 +21,7 @@ struct List {
     marks: Vec<Ecn>,
 }
 
-/// What one child took of a list.
+/// What one Child SA took of a list.
 #[derive(Clone, Copy, Debug, Default)]
 pub(super) struct Share {
     pub(super) number: u64,
@@ -206,12 +206,12 @@ impl<C: Core> Site<C> {
         Ok(())
     }
 
-    /// A packet came by no child. It may be one of a child that is about to be made.
+    /// A packet came by no Child SA. It may be one of a child that is about to be made.
     fn keep<S: System>(&mut self, around: &mut Around<'_, S>, octets: Vec<u8>) -> Result<(), Stop> {
         let packet = self.next_packet;
         self.next_packet += 1;
         self.peer.take(around.now, Event::UnknownSpi { packet });
-        // Orders before the one to keep it can't be about it, but they come first.
+        // Commands before the one to keep it can't be about it, but they come first.
         let mut octets = Some(octets);
         while let Some(order) = self.peer.next_order() {
             if order == (Order::Keep { packet }) {

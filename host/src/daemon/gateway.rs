@@ -1,4 +1,4 @@
-//! One gateway, and what is known of its associations and children.
+//! One gateway, and what is known of its IKE SAs and Child SAs.
 
 use super::around::SPIS;
 use super::heading::Heading;
@@ -7,7 +7,7 @@ use crate::core::{AssociationTold, ChildTold, Core, Selector};
 use crate::peer::NewChild;
 use std::collections::BTreeMap;
 
-/// What one child has carried.
+/// What one Child SA has carried.
 #[derive(Clone, Debug, PartialEq, Eq)]
 pub(super) struct Carried {
     pub(super) entry: u32,
@@ -25,12 +25,12 @@ pub(super) struct Carried {
     extended: bool,
 }
 
-/// What an input changed in the table of children.
+/// What an input changed in the table of Child SAs.
 #[derive(Clone, Debug, Default, PartialEq, Eq)]
 pub(super) struct Change {
-    /// The children that came, with their associations' serials.
+    /// The Child SAs that came, with their IKE SAs' serials.
     pub(super) made: Vec<(u32, NewChild)>,
-    /// The serials of those that went, with their associations'.
+    /// The serials of those that went, with their IKE SAs'.
     pub(super) gone: Vec<(u32, u32)>,
 }
 
@@ -41,10 +41,10 @@ pub(super) struct Gateway<C> {
     pub(super) core: C,
     /// The last moment that it was told.
     pub(super) told: Option<u64>,
-    /// The established associations, and since when.
+    /// The established IKE SAs, and since when.
     pub(super) established: BTreeMap<u32, u64>,
     pub(super) children: BTreeMap<u32, Carried>,
-    /// The entry of the child that is asked for under an association.
+    /// The entry of the Child SA that is asked for under an IKE SA.
     pub(super) asked: BTreeMap<u32, u32>,
 }
 
@@ -67,7 +67,7 @@ impl<C: Core> Gateway<C> {
             .is_some_and(|place| place < SPIS)
     }
 
-    /// Whether a message is for one of its associations.
+    /// Whether a message is for one of its IKE SAs.
     pub(super) fn has_association(&mut self, heading: &Heading) -> bool {
         let own = heading.own_spi();
         self.core.associations().iter().any(|association| {
@@ -79,7 +79,7 @@ impl<C: Core> Gateway<C> {
         })
     }
 
-    /// The association with these SPIs.
+    /// The IKE SA with these SPIs.
     pub(super) fn association_of(&mut self, heading: &Heading) -> Option<AssociationTold> {
         self.core.associations().into_iter().find(|association| {
             association.spi_initiator == heading.spi_initiator
@@ -87,7 +87,7 @@ impl<C: Core> Gateway<C> {
         })
     }
 
-    /// Compares the table of children with what was known of it.
+    /// Compares the table of Child SAs with what was known of it.
     pub(super) fn look(&mut self, entries: &[Entry], now: u64) -> Change {
         let table = self.core.children();
         let mut change = Change::default();
@@ -104,7 +104,7 @@ impl<C: Core> Gateway<C> {
             }
             let asked = self.asked.remove(&child.ike);
             let entry = asked.or_else(|| entry_of(child, entries));
-            // A child of no entry is cared for as one that nothing is asked of.
+            // A Child SA of no entry is cared for as one that nothing is asked of.
             let entry = entry.unwrap_or(u32::MAX);
             let told = NewChild {
                 child: child.child,
@@ -118,7 +118,7 @@ impl<C: Core> Gateway<C> {
         change
     }
 
-    /// The children whose numbers are all sent.
+    /// The Child SAs whose numbers are all sent.
     pub(super) fn ended(&self) -> Vec<u32> {
         let is_last = |carried: &Carried| {
             let last = match carried.extended {
@@ -151,21 +151,21 @@ impl Carried {
 }
 
 impl Change {
-    /// The child that was made under an association.
+    /// The Child SA that was made under an IKE SA.
     pub(super) fn made_under(&self, ike: u32) -> Option<NewChild> {
         let mut made = self.made.iter();
         made.find(|(under, _)| *under == ike)
             .map(|(_, child)| *child)
     }
 
-    /// The children of an association that went.
+    /// The Child SAs of an IKE SA that went.
     pub(super) fn gone_under(&self, ike: u32) -> Vec<u32> {
         let gone = self.gone.iter().filter(|(under, _)| *under == ike);
         gone.map(|(_, serial)| *serial).collect()
     }
 }
 
-/// The first entry that protects and holds a child that the peer asked for, by the
+/// The first entry that protects and holds a Child SA that the peer asked for, by the
 /// first selector of each side: what was agreed lies within one entry.
 pub(super) fn entry_of(child: &ChildTold, entries: &[Entry]) -> Option<u32> {
     let (local, remote) = (child.locals.first()?, child.remotes.first()?);

@@ -3,7 +3,7 @@
 
 /// IKE_SA_INIT.
 const INITIAL: u8 = 34;
-/// The flag of who began the association.
+/// The flag of who began the IKE SA.
 const INITIATOR: u8 = 0x08;
 /// The flag of an answer.
 const RESPONSE: u8 = 0x20;
@@ -32,12 +32,12 @@ impl Heading {
         })
     }
 
-    /// Whether the peer asks for a new association.
+    /// Whether the peer asks for a new IKE SA.
     pub(super) fn is_first_request(&self) -> bool {
         self.exchange == INITIAL && self.flags & RESPONSE == 0 && self.spi_responder == 0
     }
 
-    /// This end's SPI. Who sent it says whether it began the association.
+    /// This end's SPI. Who sent it says whether it began the IKE SA.
     pub(super) fn own_spi(&self) -> u64 {
         if self.flags & INITIATOR != 0 {
             self.spi_responder

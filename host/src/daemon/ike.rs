@@ -161,7 +161,7 @@ impl<C: Core> Site<C> {
                 closed,
             };
             if closed {
-                self.log_change(around, "the peer ended an association");
+                self.log_change(around, "the peer ended an IKE SA");
             }
             return self.tell(around, event);
         }
@@ -169,13 +169,13 @@ impl<C: Core> Site<C> {
             if closed {
                 self.log_change(
                     around,
-                    "an association that the peer began was declined: secret or identities",
+                    "an IKE SA that the peer began was declined: secret or identities",
                 );
             }
             return Ok(());
         }
         gateway.established.insert(ike, around.now);
-        self.log_change(around, "an association that the peer began");
+        self.log_change(around, "an IKE SA that the peer began");
         let association = name;
         self.tell(around, Event::Admitted { association, child })
     }
@@ -220,14 +220,14 @@ impl<C: Core> Site<C> {
         if closed {
             let stood = gateway.established.remove(&ike).is_some();
             said = Some(match stood {
-                true => "an association is ended",
-                false => "the peer declined an association, or this end its proof",
+                true => "an IKE SA is ended",
+                false => "the peer declined an IKE SA, or this end its proof",
             });
         } else if let Entry::Vacant(vacant) = gateway.established.entry(ike) {
             vacant.insert(now);
             said = Some(match child {
-                Some(_) => "an association that this end began",
-                None => "an association without a child: the peer declined it",
+                Some(_) => "an IKE SA that this end began",
+                None => "an IKE SA without a Child SA: the peer declined it",
             });
         }
         if let Some(said) = said {

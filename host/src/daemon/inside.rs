@@ -220,7 +220,7 @@ impl<C: Core> Site<C> {
             self.tell(around, event)?;
         }
         if sent.ended {
-            // Which child it was isn't told: the one that sent its last number.
+            // Which Child SA it was isn't told: the one that sent its last number.
             let ended = self.gateway(gateway).map(|of| of.ended());
             for child in ended.unwrap_or_default() {
                 let child = ChildName { gateway, child };
@@ -236,7 +236,7 @@ impl<C: Core> Site<C> {
 struct Sent {
     gateway: u32,
     shares: BTreeMap<u32, Share>,
-    /// Whether a child's numbers were all sent.
+    /// Whether a Child SA's numbers were all sent.
     ended: bool,
 }
 

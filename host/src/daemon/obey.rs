@@ -1,4 +1,4 @@
-//! Carrying out the orders of a peer's care.
+//! Carrying out the commands of a peer's care.
 
 use super::around::Around;
 use super::gateway::Gateway;
@@ -9,11 +9,11 @@ use crate::core::{Core, Outcome, Request, Terms};
 use crate::peer::{AssociationName, Event, Order};
 use crate::system::System;
 
-/// The answer where there is no gateway: want of memory, which is tried again later.
+/// The answer where there is no gateway: out of memory, which is tried again later.
 const NO_GATEWAY: u32 = 20;
 
 impl<C: Core> Site<C> {
-    /// Carries out all that is ordered.
+    /// Carries out all that is commanded.
     pub(super) fn carry_out<S: System>(&mut self, around: &mut Around<'_, S>) -> Result<(), Stop> {
         while let Some(order) = self.peer.next_order() {
             self.obey(around, order)?;
@@ -131,7 +131,7 @@ impl<C: Core> Site<C> {
         Ok(())
     }
 
-    /// Gives a gateway an order that asks the peer something, at the moment of now.
+    /// Gives a gateway a command that asks the peer something, at the moment of now.
     fn request<S: System>(
         &mut self,
         around: &mut Around<'_, S>,
@@ -162,12 +162,12 @@ impl<C: Core> Site<C> {
                 }
             }
             Outcome::Refused { code } => {
-                self.note_refusal(around, "an order", code);
+                self.note_refusal(around, "a command", code);
                 let refusal = refusal_of(code);
                 self.peer
                     .take(around.now, Event::Refused { order, refusal });
             }
-            // Nothing else comes of an order to ask.
+            // Nothing else comes of a command to ask.
             _ => {}
         }
         Ok(())

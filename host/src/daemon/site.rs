@@ -135,7 +135,7 @@ impl<C: Core> Site<C> {
         self.leaving
     }
 
-    /// Lets its associations end at the peer.
+    /// Lets its IKE SAs end at the peer.
     pub(super) fn leave<S: System>(&mut self, around: &mut Around<'_, S>) -> Result<(), Stop> {
         self.leaving = true;
         self.tell_time(around)?;
@@ -183,7 +183,7 @@ impl<C: Core> Site<C> {
     }
 
     /// Tells each gateway the moment, if it wasn't told it yet: before each datagram of
-    /// IKE, each order and each list of packets.
+    /// IKE, each command and each list of packets.
     pub(super) fn tell_time<S: System>(&mut self, around: &mut Around<'_, S>) -> Result<(), Stop> {
         let numbers: Vec<u32> = self.gateways.iter().map(|gateway| gateway.number).collect();
         for number in numbers {
@@ -235,7 +235,7 @@ impl<C: Core> Site<C> {
             gateway.asked.remove(&ike);
             let stood = gateway.established.remove(&ike).is_some();
             gateway.look(&self.config.entries, now);
-            let what = if stood { "an association" } else { "a start" };
+            let what = if stood { "an IKE SA" } else { "a start" };
             let line = format!("peer {}: {what} ended without an answer", self.config.name);
             around.log(Level::Warning, &line);
         }
@@ -246,7 +246,7 @@ impl<C: Core> Site<C> {
         self.tell(around, Event::Unanswered { association })
     }
 
-    /// Tells the care of this peer what happened, and carries out what it orders.
+    /// Tells the care of this peer what happened, and carries out what it commands.
     pub(super) fn tell<S: System>(
         &mut self,
         around: &mut Around<'_, S>,

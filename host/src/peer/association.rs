@@ -1,4 +1,4 @@
-//! One established association, as its care sees it.
+//! One established IKE SA, as its care sees it.
 
 use super::backoff::Backoff;
 use super::child::Child;
@@ -6,24 +6,24 @@ use super::name::{AssociationName, ChildName};
 use super::order::Order;
 use super::settings::{Role, Settings};
 
-/// How often in a row a child's replacement may be declined until the whole
-/// association is replaced.
+/// How often in a row a Child SA's replacement may be declined until the whole
+/// IKE SA is replaced.
 const DECLINES: u32 = 3;
 
-/// How long to wait after an order that was refused for a reason that passes,
+/// How long to wait after a command that was refused for a reason that passes,
 /// in milliseconds.
 const PAUSE: u64 = 1_000;
 
 /// What a request under way asks for.
 #[derive(Clone, Debug, PartialEq, Eq)]
 pub(super) enum Asked {
-    /// A further child, in place of these.
+    /// An additional Child SA, in place of these.
     Child { entry: u32, replaces: Vec<u32> },
     /// Whether the peer is there.
     Probe,
-    /// That a child ends.
+    /// That a Child SA ends.
     DeleteChild { child: u32 },
-    /// That the association ends.
+    /// That the IKE SA ends.
     DeleteIke,
 }
 
@@ -35,16 +35,16 @@ pub(super) struct Request {
     pub(super) at: u64,
 }
 
-/// An entry of which a child was declined.
+/// An entry of which a Child SA was declined.
 #[derive(Clone, Debug, PartialEq, Eq)]
 struct Declined {
     entry: u32,
     backoff: Backoff,
-    /// When a child was made all the same.
+    /// When a Child SA was made all the same.
     accepted_at: Option<u64>,
 }
 
-/// An established association.
+/// An established IKE SA.
 #[derive(Clone, Debug, PartialEq, Eq)]
 pub(super) struct Association {
     pub(super) name: AssociationName,
@@ -52,13 +52,13 @@ pub(super) struct Association {
     pub(super) heard_at: u64,
     pub(super) request: Option<Request>,
     pub(super) children: Vec<Child>,
-    /// The associations in whose place it was begun.
+    /// The IKE SAs in whose place it was begun.
     pub(super) replaces: Vec<AssociationName>,
     /// When it is to be deleted, once another one is in its place.
     pub(super) delete_at: Option<u64>,
     /// The one in its place. If that one is closed before, this one stays.
     pub(super) replaced_by: Option<AssociationName>,
-    /// Whether children can't be replaced under it any more.
+    /// Whether Child SAs can't be replaced under it any more.
     pub(super) worn: bool,
     /// Whether it stood long enough for beginning it to be a success.
     pub(super) settled: bool,
@@ -90,7 +90,7 @@ impl Association {
             .find(|child| child.serial == serial)
     }
 
-    /// A child is gone: what it replaced stays, unless it was replaced itself.
+    /// A Child SA is gone: what it replaced stays, unless it was replaced itself.
     pub(super) fn remove_child(&mut self, serial: u32) {
         let heir = self.child_mut(serial).and_then(|child| child.replaced_by);
         self.children.retain(|child| child.serial != serial);
@@ -108,7 +108,7 @@ impl Association {
         self.replaced_by = None;
     }
 
-    /// Another association is in its place: it is to be deleted at a moment, or before.
+    /// Another IKE SA is in its place: it is to be deleted at a moment, or before.
     pub(super) fn replace(&mut self, moment: u64, by: AssociationName) {
         let ends_anyway = self.delete_at.is_some() && self.replaced_by.is_none();
         self.delete_at = Some(self.delete_at.map_or(moment, |before| before.min(moment)));
@@ -117,7 +117,7 @@ impl Association {
         }
     }
 
-    /// Another association is closed. If that one replaced this one, this one stays,
+    /// Another IKE SA is closed. If that one replaced this one, this one stays,
     /// unless that one was replaced itself, by the heir.
     pub(super) fn outlive(&mut self, closed: AssociationName, heir: Option<AssociationName>) {
         if self.replaced_by == Some(closed) {
@@ -126,7 +126,7 @@ impl Association {
         }
     }
 
-    /// The name of one of its children.
+    /// The name of one of its Child SAs.
     pub(super) fn child_name(&self, serial: u32) -> ChildName {
         ChildName {
             gateway: self.name.gateway,
@@ -134,7 +134,7 @@ impl Association {
         }
     }
 
-    /// The newest child of an entry that nothing took the place of.
+    /// The newest Child SA of an entry that nothing took the place of.
     pub(super) fn current(&self, entry: u32) -> Option<&Child> {
         self.children
             .iter()
@@ -142,14 +142,14 @@ impl Association {
             .max_by_key(|child| child.serial)
     }
 
-    /// Whether packets of an entry go out by one of its children.
+    /// Whether packets of an entry go out by one of its Child SAs.
     pub(super) fn carries(&self, entry: u32) -> bool {
         self.children
             .iter()
             .any(|child| child.entry == entry && child.is_live())
     }
 
-    /// Whether packets of an entry go out by one of its children, or will as soon as
+    /// Whether packets of an entry go out by one of its Child SAs, or will as soon as
     /// an answer comes.
     pub(super) fn is_to_carry(&self, entry: u32) -> bool {
         let asks = self.request.as_ref().is_some_and(
@@ -158,14 +158,14 @@ impl Association {
         asks || self.carries(entry)
     }
 
-    /// Whether a child is asked for.
+    /// Whether a Child SA is asked for.
     pub(super) fn asks_child(&self) -> bool {
         self.request
             .as_ref()
             .is_some_and(|request| matches!(request.asked, Asked::Child { .. }))
     }
 
-    /// Whether its deletion was ordered.
+    /// Whether its deletion was commanded.
     pub(super) fn is_ending(&self) -> bool {
         self.request
             .as_ref()
@@ -179,7 +179,7 @@ impl Association {
         Some(since.saturating_add(settings.timers.doubt))
     }
 
-    /// A child of an entry was declined, or went again soon.
+    /// A Child SA of an entry was declined, or went again soon.
     pub(super) fn decline(&mut self, now: u64, entry: u32, settings: &Settings, replacing: bool) {
         let place = self.declined.iter().position(|other| other.entry == entry);
         let place = place.unwrap_or_else(|| {
@@ -196,14 +196,14 @@ impl Association {
             declined.backoff.clear();
         }
         declined.backoff.fail(now, &settings.timers);
-        // Only what the peer had accepted before shows that the association, and
+        // Only what the peer had accepted before shows that the IKE SA, and
         // not the policy, is at fault.
         if replacing && declined.backoff.failures() >= DECLINES {
             self.worn = true;
         }
     }
 
-    /// A child of an entry was made. If it lasts, what was declined before is of no
+    /// A Child SA of an entry was made. If it lasts, what was declined before is of no
     /// account.
     pub(super) fn accept(&mut self, now: u64, entry: u32) {
         for declined in &mut self.declined {
@@ -213,12 +213,12 @@ impl Association {
         }
     }
 
-    /// An order was refused for a reason that passes.
+    /// A command was refused for a reason that passes.
     pub(super) fn pause(&mut self, now: u64) {
         self.paused_until = now.saturating_add(PAUSE);
     }
 
-    /// The moment before which no child of an entry is asked for.
+    /// The moment before which no Child SA of an entry is asked for.
     fn not_before(&self, entry: u32) -> u64 {
         self.declined
             .iter()
@@ -227,8 +227,8 @@ impl Association {
     }
 
     /// What it wants to ask, each with the moment from which on, the more urgent
-    /// first. Nothing while a request is under way. Only the primary association
-    /// asks for children.
+    /// first. Nothing while a request is under way. Only the primary IKE SA
+    /// asks for Child SAs.
     pub(super) fn wishes(&self, settings: &Settings, primary: bool) -> Vec<(u64, Asked)> {
         let mut wishes = Vec::new();
         if self.request.is_some() {
@@ -257,7 +257,7 @@ impl Association {
         wishes
     }
 
-    /// Whether and when it wants a child of an entry: a missing one at once, if this
+    /// Whether and when it wants a Child SA of an entry: a missing one at once, if this
     /// end begins, and another one in time.
     fn wish_for(&self, entry: u32, settings: &Settings) -> Option<(u64, Asked)> {
         let due = match self.current(entry) {
@@ -275,7 +275,7 @@ impl Association {
         Some((moment, Asked::Child { entry, replaces }))
     }
 
-    /// Takes note of a request, and tells the order for it.
+    /// Takes note of a request, and tells the command for it.
     pub(super) fn ask(&mut self, now: u64, asked: Asked) -> Order {
         let association = self.name;
         let order = match &asked {

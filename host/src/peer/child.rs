@@ -1,9 +1,9 @@
-//! One child, as its care sees it.
+//! One Child SA, as its care sees it.
 
 use super::name::NewChild;
 use super::settings::Settings;
 
-/// A child that carries packets, or did.
+/// A Child SA that carries packets, or did.
 #[derive(Clone, Debug, PartialEq, Eq)]
 pub(super) struct Child {
     pub(super) serial: u32,
@@ -16,7 +16,7 @@ pub(super) struct Child {
     pub(super) delete_at: Option<u64>,
     /// The one in its place. If that one is gone before, this one stays.
     pub(super) replaced_by: Option<u32>,
-    /// Whether its deletion was ordered: it carries nothing outward any more.
+    /// Whether its deletion was commanded: it carries nothing outward any more.
     pub(super) deleting: bool,
 }
 

@@ -4,26 +4,26 @@ use super::name::{AssociationName, ChildName, NewChild};
 use super::order::Order;
 use super::settings::Settings;
 
-/// Why the core refused an order, in words for its E numbers.
+/// Why the core refused a command, in words for its E numbers.
 #[derive(Clone, Copy, Debug, PartialEq, Eq)]
 pub enum Refusal {
     /// The entry is none, or doesn't protect (E23).
     Unprotected,
-    /// The table or the list of associations is full (E25).
+    /// The table or the list of IKE SAs is full (E25).
     Full,
     /// All SPIs of the gateway were given (E26).
     SpisSpent,
-    /// There is no such association or child (E28).
+    /// There is no such IKE SA or Child SA (E28).
     Unknown,
-    /// The association isn't established, or the child is being deleted (E32).
+    /// The IKE SA isn't established, or the Child SA is being deleted (E32).
     WrongPhase,
     /// As many requests wait as the peer takes at once (E35).
     Busy,
-    /// The association's or the gateway's numbers are spent (E36).
+    /// The IKE SA's or the gateway's numbers are spent (E36).
     NumbersSpent,
     /// The fresh SPI was zero or in use (E37).
     BadFresh,
-    /// There was no memory (E10, E20, E24, E27).
+    /// It was out of memory (E10, E20, E24, E27).
     Memory,
 }
 
@@ -34,77 +34,77 @@ pub enum Refusal {
 pub enum Event {
     /// Nothing but time passed.
     Moment,
-    /// `Order::Start` was carried out, as this association of the order's gateway.
+    /// `Order::Start` was carried out, as this IKE SA of the command's gateway.
     Begun {
-        /// The association that waits for its first answer.
+        /// The IKE SA that waits for its first answer.
         association: AssociationName,
     },
-    /// An order was refused, and changed nothing.
+    /// A command was refused, and changed nothing.
     Refused {
-        /// The order, as it was given.
+        /// The command, as it was given.
         order: Order,
         /// Why.
         refusal: Refusal,
     },
     /// An answer was counted (the output `Counted`).
     Counted {
-        /// The association whose request it answers.
+        /// The IKE SA whose request it answers.
         association: AssociationName,
-        /// The child that it made.
+        /// The Child SA that it made.
         child: Option<NewChild>,
-        /// Whether it closed the association.
+        /// Whether it closed the IKE SA.
         closed: bool,
     },
-    /// A request of IKE_AUTH took effect and established an association that the
+    /// A request of IKE_AUTH took effect and established an IKE SA that the
     /// peer began (a `Reply`).
     Admitted {
-        /// The association.
+        /// The IKE SA.
         association: AssociationName,
-        /// The child that was made with it.
+        /// The Child SA that was made with it.
         child: Option<NewChild>,
     },
     /// A later request of the peer took effect (a `Reply`).
     Replied {
-        /// The association under which it came.
+        /// The IKE SA under which it came.
         association: AssociationName,
-        /// The child that it made.
+        /// The Child SA that it made.
         child: Option<NewChild>,
-        /// The serials of the children that it deleted.
+        /// The serials of the Child SAs that it deleted.
         gone: Vec<u32>,
-        /// Whether it closed the association.
+        /// Whether it closed the IKE SA.
         closed: bool,
     },
-    /// A request of the peer came again and was answered again (a `Repeat`).
+    /// A retransmission of a request of the peer was answered again (a `Repeat`).
     Repeated {
-        /// The association under which it came.
+        /// The IKE SA under which it came.
         association: AssociationName,
     },
-    /// The core closed an association, since no answer came (`Ticked.closed`).
+    /// The core closed an IKE SA, since no answer came (`Ticked.closed`).
     Unanswered {
-        /// The association.
+        /// The IKE SA.
         association: AssociationName,
     },
-    /// Packets went out by a child.
+    /// Packets went out by a Child SA.
     Sealed {
-        /// The child.
+        /// The Child SA.
         child: ChildName,
         /// The last number sent.
         number: u64,
         /// Octets since this was last told.
         octets: u64,
     },
-    /// Packets came by a child and were opened.
+    /// Packets came by a Child SA and were opened.
     Opened {
-        /// The child.
+        /// The Child SA.
         child: ChildName,
         /// The greatest number taken.
         number: u64,
         /// Octets since this was last told.
         octets: u64,
     },
-    /// A child has sent all its numbers (E12).
+    /// A Child SA has sent all its numbers (E12).
     NumbersEnded {
-        /// The child.
+        /// The Child SA.
         child: ChildName,
     },
     /// An ESP packet came whose SPI the gateway doesn't know (E28). One that was

@@ -10,11 +10,11 @@ struct Gateway {
     number: u32,
     spis: u32,
     secret_at: u64,
-    /// Since when it has had no association.
+    /// Since when it has had no IKE SA.
     empty_since: Option<u64>,
 }
 
-/// The open gateways, the newest last. New associations are begun in the newest.
+/// The open gateways, the newest last. New IKE SAs are begun in the newest.
 #[derive(Clone, Debug, Default, PartialEq, Eq)]
 pub(super) struct Gateways {
     open: Vec<Gateway>,
@@ -98,7 +98,7 @@ impl Gateways {
         }
     }
 
-    /// Ends the gateways that have been without association for long enough. The
+    /// Ends the gateways that have been without IKE SA for long enough. The
     /// newest stays, and so does the one that carries.
     pub(super) fn end_empty(
         &mut self,

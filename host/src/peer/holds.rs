@@ -1,6 +1,6 @@
 //! Waiting at a replacement by the peer (RFC 7296, section 2.8).
 //!
-//! The end that answers a request for a child has the child at once, the end that
+//! The end that answers a request for a Child SA has the child at once, the end that
 //! asked has it only with the answer. What goes out by it in between is lost, so
 //! packets wait until the peer shows that it has the child.
 
@@ -22,7 +22,7 @@ pub(super) struct Holds {
 }
 
 impl Holds {
-    /// Lets packets of an entry wait for the peer to have a child.
+    /// Lets packets of an entry wait for the peer to have a Child SA.
     pub(super) fn hold(
         &mut self,
         entry: u32,
@@ -42,7 +42,7 @@ impl Holds {
         orders.push_back(Order::Hold { entry });
     }
 
-    /// Something came by a child, or it is gone.
+    /// Something came by a Child SA, or it is gone.
     pub(super) fn release_child(&mut self, child: ChildName, orders: &mut VecDeque<Order>) {
         self.release(|hold| hold.child == child, orders);
     }

@@ -1,4 +1,4 @@
-//! Packets that came by a child before the answer that makes it here.
+//! Packets that came by a Child SA before the answer that makes it here.
 
 use super::order::Order;
 use std::collections::VecDeque;
@@ -27,13 +27,13 @@ impl Kept {
         }
     }
 
-    /// A child was made: each packet is given once more.
+    /// A Child SA was made: each packet is given once more.
     pub(super) fn give_again(&mut self, orders: &mut VecDeque<Order>) {
         let packets = self.packets.drain(..);
         orders.extend(packets.map(|packet| Order::GiveAgain { packet }));
     }
 
-    /// No child is asked for any more.
+    /// No Child SA is asked for any more.
     pub(super) fn forget(&mut self, orders: &mut VecDeque<Order>) {
         let packets = self.packets.drain(..);
         orders.extend(packets.map(|packet| Order::Forget { packet }));

@@ -1,24 +1,24 @@
-//! How associations and children are named.
+//! How IKE SAs and Child SAs are named.
 
-/// An IKE association of one of this peer's gateways.
+/// An IKE SA of one of this peer's gateways.
 #[derive(Clone, Copy, Debug, PartialEq, Eq, PartialOrd, Ord)]
 pub struct AssociationName {
     /// The gateway's number, as [`Order::OpenGateway`](super::Order) gave it.
     pub gateway: u32,
-    /// The association's serial in that gateway.
+    /// The IKE SA's serial in that gateway.
     pub ike: u32,
 }
 
-/// A child of one of this peer's gateways.
+/// A Child SA of one of this peer's gateways.
 #[derive(Clone, Copy, Debug, PartialEq, Eq, PartialOrd, Ord)]
 pub struct ChildName {
     /// The gateway's number, as [`Order::OpenGateway`](super::Order) gave it.
     pub gateway: u32,
-    /// The child's serial in that gateway's table.
+    /// The Child SA's serial in that gateway's table.
     pub child: u32,
 }
 
-/// What is told of a child that was just made.
+/// What is told of a Child SA that was just made.
 #[derive(Clone, Copy, Debug, PartialEq, Eq)]
 pub struct NewChild {
     /// Its serial in the gateway's table.

@@ -2,7 +2,7 @@
 
 use super::name::AssociationName;
 
-/// What is to be done. The daemon carries each order out at once, in the order
+/// What is to be done. The daemon carries each command out at once, in the order
 /// in which they are given, and tells its outcome before it asks for the next one:
 /// [`Event::Begun`](super::Event) of `Start`, `Refused` of whichever the core
 /// refused, and nothing of others.
@@ -11,7 +11,7 @@ pub enum Order {
     /// Make a gateway by the present configuration, with a first SPI 65,536 or more
     /// away from every other one. The peer's first requests go to it from now on.
     OpenGateway {
-        /// Its number, by which all other orders name it.
+        /// Its number, by which all other commands name it.
         gateway: u32,
     },
     /// Give packets on their way out to this gateway from now on.
@@ -19,7 +19,7 @@ pub enum Order {
         /// The gateway's number.
         gateway: u32,
     },
-    /// End a gateway: its associations are gone.
+    /// End a gateway: its IKE SAs are gone.
     EndGateway {
         /// The gateway's number.
         gateway: u32,
@@ -29,35 +29,35 @@ pub enum Order {
         /// The gateway's number.
         gateway: u32,
     },
-    /// Begin an association, with a first child by an entry.
+    /// Begin an IKE SA, with a first Child SA by an entry.
     Start {
         /// The gateway's number.
         gateway: u32,
         /// The entry's place in the policy, from 0.
         entry: u32,
     },
-    /// Ask for a further child under an association.
+    /// Ask for an additional Child SA under an IKE SA.
     Child {
-        /// The association.
+        /// The IKE SA.
         association: AssociationName,
         /// The entry's place in the policy, from 0.
         entry: u32,
     },
     /// Ask whether the peer is there.
     Probe {
-        /// The association.
+        /// The IKE SA.
         association: AssociationName,
     },
-    /// Delete a child at both ends.
+    /// Delete a Child SA at both ends.
     DeleteChild {
-        /// The association that the child is of.
+        /// The IKE SA that the Child SA is of.
         association: AssociationName,
-        /// The child's serial.
+        /// The Child SA's serial.
         child: u32,
     },
-    /// Delete an association with its children at both ends.
+    /// Delete an IKE SA with its Child SAs at both ends.
     DeleteIke {
-        /// The association.
+        /// The IKE SA.
         association: AssociationName,
     },
     /// Let packets on their way out by an entry wait.
@@ -70,7 +70,7 @@ pub enum Order {
         /// The entry's place in the policy, from 0.
         entry: u32,
     },
-    /// Keep an ESP packet that had no child. Without this order it is dropped.
+    /// Keep an ESP packet that had no Child SA. Without this command it is dropped.
     Keep {
         /// The packet's number.
         packet: u64,

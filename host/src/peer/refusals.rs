@@ -1,4 +1,4 @@
-//! What follows where the core refuses an order.
+//! What follows where the core refuses a command.
 
 use super::event::Refusal;
 use super::name::AssociationName;
@@ -37,7 +37,7 @@ impl Peer {
         }
     }
 
-    /// An order under an association was refused, and may be given again later.
+    /// A command under an IKE SA was refused, and may be given again later.
     fn request_refused(&mut self, name: AssociationName, refusal: Refusal) {
         if refusal == Refusal::Unknown {
             self.closed(name);
@@ -51,7 +51,7 @@ impl Peer {
         }
     }
 
-    /// A child's deletion was refused: it is gone, or still to be deleted.
+    /// A Child SA's deletion was refused: it is gone, or still to be deleted.
     fn deletion_refused(&mut self, name: AssociationName, serial: u32, refusal: Refusal) {
         if refusal == Refusal::Unknown {
             self.child_gone(name, serial);

@@ -13,7 +13,7 @@ use super::{Beginning, Peer};
 impl Peer {
     /// The moment at which to tell [`Event::Moment`](super::Event), if nothing else
     /// comes before, in milliseconds. It is later than the last one told, as long as
-    /// no order waits.
+    /// no command waits.
     pub fn next_moment(&self) -> Option<u64> {
         if self.stopped {
             return None;
@@ -55,7 +55,7 @@ impl Peer {
         self.stop();
     }
 
-    /// An association that stood for long enough shows that beginning works. It
+    /// An IKE SA that stood for long enough shows that beginning works. It
     /// counts once, or a lasting one would let failures beside it go on without a
     /// wait.
     pub(super) fn settle(&mut self) {
@@ -110,7 +110,7 @@ impl Peer {
         })
     }
 
-    /// Lets associations end in whose place others carry.
+    /// Lets IKE SAs end in whose place others carry.
     fn replace_associations(&mut self) {
         let delete_at = self.now.saturating_add(self.settings.timers.overlap);
         let ready: Vec<usize> = (0..self.associations.len())
@@ -127,7 +127,7 @@ impl Peer {
         }
     }
 
-    /// Whether an association carries all that those before it carried or are about to
+    /// Whether an IKE SA carries all that those before it carried or are about to
     /// carry, or something for so long that what lacks is given up.
     fn is_in_place(&self, association: &Association) -> bool {
         if association.replaces.is_empty() {
@@ -146,7 +146,7 @@ impl Peer {
         carries_all || over
     }
 
-    /// When an association that carries something is no more waited for.
+    /// When an IKE SA that carries something is no more waited for.
     fn patience_of(&self, association: &Association) -> Option<u64> {
         let carries = association.children.iter().any(|child| child.is_live());
         let waited = carries && !association.replaces.is_empty() && self.leaving_until.is_none();
@@ -157,7 +157,7 @@ impl Peer {
         })
     }
 
-    /// Gives each association's most urgent order that is due.
+    /// Gives each IKE SA's most urgent command that is due.
     fn ask_all(&mut self) {
         for place in 0..self.associations.len() {
             let association = &self.associations[place];
@@ -174,7 +174,7 @@ impl Peer {
         }
     }
 
-    /// The association under which children are asked for: the newest in the newest
+    /// The IKE SA under which Child SAs are asked for: the newest in the newest
     /// gateway that is to stay.
     fn primary(&self) -> Option<&Association> {
         let newest = self.gateways.newest();
@@ -188,7 +188,7 @@ impl Peer {
         self.primary().is_some_and(|a| a.name == association.name)
     }
 
-    /// When another association is to be begun, if one is wanted and none is begun
+    /// When another IKE SA is to be begun, if one is wanted and none is begun
     /// already.
     fn begin_moment(&self) -> Option<u64> {
         let wanted = self.settings.role == Role::Begins
@@ -202,7 +202,7 @@ impl Peer {
         Some(reason.max(self.backoff.not_before()))
     }
 
-    /// When another association is begun beside one: by age, by doubt, or since it
+    /// When another IKE SA is begun beside one: by age, by doubt, or since it
     /// is worn.
     fn replaced_at(&self, association: &Association) -> u64 {
         if association.worn {
@@ -230,12 +230,12 @@ impl Peer {
         }
     }
 
-    /// The entry of a new association's first child.
+    /// The entry of a new IKE SA's first Child SA.
     fn first_entry(&self) -> Option<u32> {
         self.settings.entries.first().copied()
     }
 
-    /// Ends, once all associations are deleted or waiting is over.
+    /// Ends, once all IKE SAs are deleted or waiting is over.
     fn stop(&mut self) {
         let Some(until) = self.leaving_until else {
             return;

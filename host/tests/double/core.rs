@@ -111,7 +111,7 @@ fn code_of(refusal: Refusal) -> u32 {
 impl Core for Double {
     fn open(terms: &Terms<'_>) -> Result<Double, String> {
         if CLOSED.with(|closed| *closed.borrow()) {
-            return Err("no memory".to_string());
+            return Err("out of memory".to_string());
         }
         let first_spi = terms.first_spi;
         note(Call::Open { first_spi });

@@ -19,7 +19,7 @@ fn tag(body: &Body) -> (u8, u64, u64) {
     }
 }
 
-/// A message, of an end that began the association or not.
+/// A message, of an end that began the IKE SA or not.
 pub fn octets_of(message: &Message, by_initiator: bool) -> Vec<u8> {
     let (tag, first, second) = tag(&message.body);
     let exchange = match tag {

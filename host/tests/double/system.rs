@@ -25,7 +25,7 @@ pub struct Faults {
     pub write_inside: Option<i32>,
     /// Whether no interface can be made.
     pub open_inside: bool,
-    /// Whether there is no chance.
+    /// Whether there is no randomness.
     pub draw: bool,
 }
 

@@ -1,7 +1,7 @@
 //! Packets for the tests of the path, with checksums by the book: word by word.
 #![allow(dead_code)] // each test uses a part
 
-/// Chance that can be had again (xorshift).
+/// Randomness that can be had again (xorshift).
 pub struct Chance(pub u64);
 
 impl Chance {

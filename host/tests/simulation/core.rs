@@ -1,7 +1,7 @@
-//! A small model of one gateway's core: associations, children, requests under way.
+//! A small model of one gateway's core: IKE SAs, Child SAs, requests under way.
 //!
 //! It has the core's times (again after 1, 2, 4, 8 and 16 s, closed 16 s later), its
-//! refusals of orders and its limits, and none of its octets.
+//! refusals of commands and its limits, and none of its octets.
 
 use std::collections::BTreeMap;
 use sukperind::peer::Refusal;
@@ -124,7 +124,7 @@ pub struct Core {
     pub spi_limit: u32,
     /// How many requests it takes at once, and its peer too.
     pub window: u32,
-    /// Whether children are declined.
+    /// Whether Child SAs are declined.
     pub declines: bool,
     next_ike: u32,
     next_pair: u32,
@@ -235,7 +235,7 @@ impl Core {
             .min()
     }
 
-    /// What goes out again, and the associations that are closed.
+    /// What goes out again, and the IKE SAs that are closed.
     pub fn tick(&mut self, now: u64) -> (Vec<Message>, Vec<u32>) {
         let mut again = Vec::new();
         let mut closed = Vec::new();

@@ -13,7 +13,7 @@ pub enum Sent {
     Esp(Packets),
 }
 
-/// Packets by one child, told together.
+/// Packets by one Child SA, told together.
 #[derive(Clone, Debug)]
 pub struct Packets {
     pub spi: u64,
@@ -42,7 +42,7 @@ pub struct Counts {
     pub longest_hold: u64,
     pub refused: BTreeMap<String, u64>,
     pub packets_opened: u64,
-    /// The greatest share of a child's numbers that was sent, in thousandths.
+    /// The greatest share of a Child SA's numbers that was sent, in thousandths.
     pub greatest_share: u64,
 }
 
@@ -91,7 +91,7 @@ pub struct End {
     pub counts: Counts,
     pub stopped: bool,
     pub leaving: bool,
-    /// Until when associations may be deleted without another one in their place.
+    /// Until when IKE SAs may be deleted without another one in their place.
     pub anew_at: u64,
     pub failed_start: Option<u64>,
     pub failures: u32,
@@ -131,7 +131,7 @@ impl End {
         self.next_spi
     }
 
-    /// Tells an event, and carries out what is ordered.
+    /// Tells an event, and carries out what is commanded.
     pub fn tell(&mut self, now: u64, event: Event) {
         self.peer.take(now, event);
         self.carry_out(now);
@@ -244,7 +244,7 @@ impl End {
         self.tell(now, event);
     }
 
-    /// Packets came by a child.
+    /// Packets came by a Child SA.
     pub fn open(&mut self, now: u64, packets: &Packets, kept: Option<u64>) {
         for core in &mut self.cores {
             let gateway = core.number;
@@ -472,7 +472,7 @@ impl End {
             phases.count()
         };
         let core = self.core(gateway);
-        assert_eq!(begun(core), 0, "one association is begun at a time");
+        assert_eq!(begun(core), 0, "one IKE SA is begun at a time");
         let (ike, message) = core.start(now, entry, ike_spi, spi)?;
         self.sent.push(Sent::Ike(message));
         let association = AssociationName { gateway, ike };
@@ -495,7 +495,7 @@ impl End {
         Ok(())
     }
 
-    /// A child is deleted only where another one has carried for long enough.
+    /// A Child SA is deleted only where another one has carried for long enough.
     fn check_successor(&mut self, now: u64, name: AssociationName, child: u32) {
         let overlap = self.settings.timers.overlap;
         let core = self.core(name.gateway);
@@ -507,7 +507,7 @@ impl End {
         assert!(newer, "a child is deleted only after a newer one carries");
     }
 
-    /// An association is deleted only where others have stood for long enough, and
+    /// An IKE SA is deleted only where others have stood for long enough, and
     /// carry what it carried, unless that was waited for long enough.
     fn check_other(&mut self, now: u64, name: AssociationName) {
         if self.leaving || now <= self.anew_at {
@@ -535,7 +535,8 @@ impl End {
         let all = entries.all(|entry| !carries(*entry, true) || carries(*entry, false));
         assert!(
             stands(timers.overlap) && (all || stands(timers.patience)),
-            "an association is deleted only where another stands and carries: {name:?} at {now} {:#?}", self.peer
+            "an IKE SA is deleted only where another stands and carries: {name:?} at {now} {:#?}",
+            self.peer
         );
     }
 

@@ -262,8 +262,8 @@ impl World {
             core.declines = declines;
         }
         self.quiet_since = self.now;
-        // Where a peer declines each child for longer, numbers do end at a million
-        // packets a second: nothing that this end could order helps then.
+        // Where a peer declines each Child SA for longer, numbers do end at a million
+        // packets a second: nothing that this end could command helps then.
         let most = if declines { 600_000 } else { most };
         let length = self.random.between(least, most);
         self.later(length, Item::Wire);
@@ -310,13 +310,13 @@ impl World {
     }
 
     /// How long it may take at most, from when the wire delivers and both ends are
-    /// there, until each entry has a child at both ends.
+    /// there, until each entry has a Child SA at both ends.
     pub fn bound(&self) -> u64 {
         let timers = &self.plan.settings[0].timers;
         timers.silence + timers.doubt + 2 * 53_000 + timers.longest_backoff + 30_000
     }
 
-    /// Whether an entry has a Live child that both ends hold.
+    /// Whether an entry has a Live Child SA that both ends hold.
     pub fn carries(&self, entry: u32) -> bool {
         let [Some(one), Some(other)] = &self.ends else {
             return false;

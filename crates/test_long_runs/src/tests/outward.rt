@@ -44,6 +44,10 @@ fn lists_of_each_length_out(rt: HostRuntime) -> Result<(), Fail> {
     assert_eq!(rt; compared.other, 0);
     assert_eq!(rt; compared.same, 5040);
     assert!(rt; compared.sealed > 2500, "{} sealed", compared.sealed);
-    assert!(rt; compared.changes > 1000, "{} of another child", compared.changes);
+    assert!(rt;
+        compared.changes > 1000,
+        "{} of another child",
+        compared.changes
+    );
     Ok(())
 }
