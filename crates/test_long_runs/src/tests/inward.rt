@@ -25,7 +25,7 @@ fn are_wanted(rt: &impl Abort, played: &Played, each: &[Wanted]) {
     }
 }
 
-// With extended numbers one below the window is read as one of the next 2^32, so its check value is wrong.
+// With extended numbers one below the window is read as one of the next 2^32, so its ICV is wrong.
 #[test]
 fn a_hundred_thousand_inputs(rt: HostRuntime) {
     let each = [
@@ -57,7 +57,8 @@ fn a_hundred_thousand_inputs_of_short_numbers(rt: HostRuntime) {
     are_wanted(&rt, &play_lists(&rt, rt.alloc(), false), &each);
 }
 
-/// What A is given where an association, its first child and a packet are made: its order, both answers of B, and the packet.
+/// What A is given where an IKE SA, its first child and a packet are made: its order, both answers of B, and
+/// the packet.
 fn inputs_of_a(rt: &impl Abort, alloc: Global, both: &Both) -> Vec<OwnedInput> {
     let mut inputs = Vec::new(alloc);
     inputs.push(order(1)).expect(rt, "memory");
@@ -70,13 +71,13 @@ fn inputs_of_a(rt: &impl Abort, alloc: Global, both: &Both) -> Vec<OwnedInput> {
     inputs
 }
 
-/// The ESP packet of number 1 under SPI 8192 that carries the packet of identification 7, as far as its check value.
+/// The ESP packet of number 1 under SPI 8192 that carries the packet of identification 7, as far as its ICV.
 const SEALED: [u8; 32] = [
     0, 0, 0x20, 0, 0, 0, 0, 1, 0x45, 0, 0, 20, 0, 7, 0, 0, 0x40, 1, 0, 0, 10, 0, 0, 0, 10, 1, 0, 1,
     1, 2, 2, 4,
 ];
 
-/// Finds that a request of A's first association goes out, of so many octets, and that it is this one.
+/// Finds that a request of A's first IKE SA goes out, of so many octets, and that it is this one.
 fn is_request(rt: &impl Abort, output: &Output<'_>, length: usize, octets: &[u8]) {
     match output {
         Output::Request {

@@ -1,11 +1,9 @@
 //! Each packet's output is, octet for octet, the one that a gateway gives which remembers nothing.
 mod ends;
-mod lists;
 mod packets;
 mod played;
 mod wanted;
 
-use lists::compare_lists;
 use played::{Played, play};
 use std::process::Abort;
 use std::test::Fail;
@@ -34,20 +32,5 @@ fn a_hundred_thousand_packets(rt: HostRuntime) -> Result<(), Fail> {
 #[test]
 fn packets_without_memory(rt: HostRuntime) -> Result<(), Fail> {
     assert_eq!(rt; play(rt.alloc(), 20)?.first_wrong, None);
-    Ok(())
-}
-
-// By a list or one by one, the same comes of each packet: 70 lists of 71 packets and one input between them.
-#[test]
-fn lists_of_each_length_out(rt: HostRuntime) -> Result<(), Fail> {
-    let compared = compare_lists(rt.alloc())?;
-    assert_eq!(rt; compared.other, 0);
-    assert_eq!(rt; compared.same, 5040);
-    assert!(rt; compared.sealed > 2500, "{} sealed", compared.sealed);
-    assert!(rt;
-        compared.changes > 1000,
-        "{} of another child",
-        compared.changes
-    );
     Ok(())
 }

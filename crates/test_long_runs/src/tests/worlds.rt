@@ -8,7 +8,8 @@ use game::{Played, play};
 use std::process::Abort;
 use std::test::Fail;
 
-/// Finds that nothing was other than is promised, and that enough went through: packets, requests, children, also closed associations.
+/// Finds that nothing was other than is promised, and that enough went through: packets, requests, children,
+/// also closed IKE SAs.
 fn are_kept(rt: &impl Abort, played: &Played, outstanding: usize) {
     assert_eq!(rt; played.first_wrong, None);
     assert!(rt; played.ups > 1500, "{} packets went up", played.ups);

@@ -1,5 +1,6 @@
-//! Lists of ESP packets of each length from 1 to 70, given to two gateways that are alike: one takes each by a call of `run`, the other
-//! its packets one by one. A list of 6 or more may have its check values computed side by side, one of more than 64 has a group and a rest.
+//! Lists of ESP packets of each length from 1 to 70, given to two gateways that are alike: one takes each by
+//! a call of `run`, the other its packets one by one. A list of 6 or more may have its ICVs computed side by
+//! side, one of more than 64 has a group and a rest.
 use super::arrivals::Sender;
 use crate::tests::random::Random;
 use base::Items;

@@ -105,7 +105,7 @@ impl Given {
     }
 }
 
-/// The last octet is changed, which is one of the check value.
+/// The last octet is changed, which is one of the ICV.
 fn damaged(rt: &impl Abort, alloc: Global, octets: &[u8]) -> Vec<u8> {
     let mut damaged = octets.to_vec(alloc).expect(rt, "memory");
     if let Some(last) = damaged.last_mut() {

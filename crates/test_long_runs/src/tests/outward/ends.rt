@@ -135,7 +135,7 @@ impl Ends {
         Ok(())
     }
 
-    /// The serial of the association that an end made last.
+    /// The serial of the IKE SA that an end made last.
     pub fn association(&self, end: End) -> Option<u32> {
         let gateway = match end {
             End::A => &self.a,

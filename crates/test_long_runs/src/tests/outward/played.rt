@@ -87,7 +87,7 @@ impl Game {
         self.send(alloc, place)
     }
 
-    /// An association, by A's order.
+    /// An IKE SA, by A's order.
     fn begin(&mut self, alloc: Global) -> Result<(), AllocError> {
         let order = Input::Start {
             ike: None,
@@ -159,7 +159,7 @@ impl Game {
         }
     }
 
-    /// A further child, by an end's order.
+    /// An additional Child SA, by an end's order.
     fn make(&mut self, alloc: Global, end: End) -> Result<(), AllocError> {
         let order = Input::Start {
             ike: self.ends.association(end),

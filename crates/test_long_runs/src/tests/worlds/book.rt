@@ -58,7 +58,8 @@ impl Book {
         Ok(())
     }
 
-    /// A packet goes up, as this number of this association: which packet was sealed so, if none went up so before.
+    /// A packet goes up, as this number of this IKE SA: which packet was sealed so, if none went up so
+    /// before.
     pub fn hand_up(&mut self, by: &Simplex, number: u64) -> Result<Option<u64>, AllocError> {
         let is_new = self.went_up.insert((by.spi, number))?;
         let packet = self.sealed.get(&(by.spi, number)).copied();

@@ -16,7 +16,7 @@ use test_samples::{OwnedEvent, OwnedInput, SampleFault, config, fresh, order, po
 /// What is wrong after an event.
 #[derive(Clone, Copy, Debug, PartialEq, Eq)]
 pub enum Wrong {
-    /// The requests of some association.
+    /// The requests of some IKE SA.
     Requests(Standing),
     /// The pairs of both ends' child of one request.
     Pairs,
@@ -35,7 +35,7 @@ pub struct Played {
     pub mirrored: usize,
     /// How many records of keys both ends made.
     pub records: usize,
-    /// The most requests of one association that waited for their answer.
+    /// The most requests of one IKE SA that waited for their answer.
     pub most_outstanding: usize,
 }
 
@@ -335,7 +335,8 @@ impl Game {
         self.spi
     }
 
-    /// An order: for an association where none stands, and now and then beside one; else mostly to ask whether the other end is there.
+    /// An order: for an IKE SA where none stands, and now and then beside one; else mostly to ask whether the
+    /// other end is there.
     fn order(&mut self, end: End) -> OwnedEvent {
         let spi = self.next_spi();
         if !self.is_connected(end) || self.random.below(300) == 0 {
@@ -360,7 +361,7 @@ impl Game {
         OwnedEvent { end, input }
     }
 
-    /// Whether an end has an association that is established.
+    /// Whether an end has an IKE SA that is established.
     fn is_connected(&self, end: End) -> bool {
         self.world.gateway(end).associations().iter().any(|association| matches!(
             association.phase,
@@ -368,7 +369,7 @@ impl Game {
         ))
     }
 
-    /// The serial of one of an end's last two associations.
+    /// The serial of one of an end's last two IKE SAs.
     fn some_association(&mut self, end: End) -> u32 {
         let back = self.random.below(2) as usize;
         let held = self.world.gateway(end).associations();

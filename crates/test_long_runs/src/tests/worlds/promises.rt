@@ -1,4 +1,4 @@
-//! What is promised of two ends that hold one association.
+//! What is promised of two ends that hold one IKE SA.
 use super::book::Book;
 use association::{Association, Phase};
 use caller_script::ScriptCaller;
@@ -32,7 +32,8 @@ pub fn are_mirrored(one: &Child, other: &Child) -> bool {
         && one.remote == other.local
 }
 
-/// The first association of either end whose requests don't stand as is promised; else the most that wait for their answer.
+/// The first IKE SA of either end whose requests don't stand as is promised; else the most that wait for
+/// their answer.
 pub fn judge_world(world: &World<ScriptCaller>, book: &Book, window: u8) -> Standing {
     let mut most = 0;
     for end in [End::A, End::B] {
@@ -64,13 +65,14 @@ fn judge_end(world: &World<ScriptCaller>, book: &Book, window: u8, end: End) -> 
     Standing::Sound(most)
 }
 
-/// The association of the other end that has the same keys, and the other role.
+/// The IKE SA of the other end that has the same keys, and the other role.
 fn peer_of<'a>(one: &Association, others: &'a [Association]) -> Option<&'a Association> {
     let keys = one.keys()?;
     others.iter().find(|other| other.role != one.role && other.keys() == Some(keys))
 }
 
-/// How many requests an end issued under an association; an initiator that has keys issued IKE_SA_INIT as number 0.
+/// How many requests an end issued under an IKE SA; an initiator that has keys issued IKE_SA_INIT as number
+/// 0.
 fn issued(book: &Book, end: End, association: &Association) -> u32 {
     let initial = u32::from(association.role == Role::Initiator);
     match association.keys() {
