@@ -1,4 +1,4 @@
-//! A caller with what real peers of IPsec speak; none was tried yet: AES-256 in CBC mode with
+//! A caller with what real peers of IPsec speak (strongSwan 5.9.8 was tried): AES-256 in CBC mode with
 //! HMAC-SHA-256-128 (RFC 3602, RFC 4868) as cipher, the 2048-bit MODP group (RFC 3526) as key agreement,
 //! and shared keys as proofs of identity (RFC 7296, section 2.15).
 //!

@@ -26,13 +26,23 @@
 //! What comes is an [`Output`], which prints as one line:
 //!
 //! - `Request`, `Reply`, `Repeat`, `Ticked` and `Sealed` have something to send:
-//!   [`datagrams`](Output::datagrams) tells what, as `&[u8]`;
+//!   [`datagrams`](Output::datagrams) tells what, as `&[u8]`. Commands answer `Request`, a `Tick` answers
+//!   `Ticked`, an outbound packet `Sealed`;
 //! - `Up` has a packet for the inside, `Clear` one that the policy lets pass as it is;
-//! - `Counted` is an answer that counted, `Dummy` a packet to be thrown away, `Done` a command that was
-//!   carried out; where `closed` is told, an IKE SA ended, and the host may start anew;
+//! - `Counted` is a response that was matched to its request, `Dummy` a packet to be thrown away, and `Done`
+//!   the answer to `Secret`. Where `closed` tells the serial of an IKE SA, that one ended with all its Child
+//!   SAs: a host that wants the tunnel gives `Start` again, and waits longer each time;
 //! - nothing came of it: `Dropped` where what came or was to be sent doesn't fit (`dropped: E16: the number
 //!   was taken already`), `Refused` where a command can't be carried out or memory ran out, `Discarded`
 //!   where the policy says so, or no entry covers the packet.
+//!
+//! E10, E20, E24 and E27 mean that memory ran out: nothing changed, and the same input may be given again.
+//! E32 and E35 on a command mean later: the IKE SA isn't established, or the peer has to answer first.
+//!
+//! Three things are called a secret. That of [`Config::new`] makes cookies; `Fresh::secret` is this end's
+//! half of one key agreement; the pre-shared secret of a peer is in the caller. `caller_peer::PeerCaller` is
+//! made of this end's own pre-shared secret and a list of peers, each with the type and octets of its
+//! identity and its secret. `Items::from_vec` takes over what a `Vec` holds.
 //!
 //! What the examples' errors are is `std::test::Fail`; a program may take `anyhow::Error`. Several gateways
 //! of one host take first SPIs at least 65,536 apart.
@@ -40,7 +50,7 @@
 //! # Two hosts
 //!
 //! ```rust
-//! use caller_script::ScriptCaller; // hides nothing: for real peers it is caller_peer::PeerCaller
+//! use caller_script::ScriptCaller; // no encryption, for tests: real peers want caller_peer::PeerCaller
 //! use gateway::{Address, Config, EndConfig, Entry, Fresh, Gateway, Identity, Input};
 //! use gateway::{Items, Output, Policy, Range, Transmit, first_spi};
 //! use std::alloc::Global;
@@ -155,7 +165,8 @@
 //! }
 //!
 //! // A turn of the loop: a packet for the other site, what comes from the peer, and the time. Here it jumps
-//! // to what is due next; a real host sleeps until then, or until something comes.
+//! // to what is due next at the end that began, and both are told it; a real host has a clock, and sleeps
+//! // until its own gateway's next moment, or until something comes.
 //! fn turn(
 //!     alloc: Global,
 //!     count: &mut u8,
@@ -168,6 +179,7 @@
 //!     carry(alloc, count, b, a)?;
 //!     if let Some(moment) = a.gateway.next_moment() {
 //!         take(alloc, a, &Input::Tick { moment })?;
+//!         take(alloc, b, &Input::Tick { moment })?;
 //!     }
 //!     Ok(())
 //! }

@@ -25,7 +25,7 @@ fn the_page_of_caller_peer(rt: HostRuntime) -> Result<(), Fail> {
 
 #[test]
 fn the_page_of_gateway(rt: HostRuntime) -> Result<(), Fail> {
-    use caller_script::ScriptCaller; // hides nothing: for real peers it is caller_peer::PeerCaller
+    use caller_script::ScriptCaller; // no encryption, for tests: real peers want caller_peer::PeerCaller
     use gateway::{Address, Config, EndConfig, Entry, Fresh, Gateway, Identity, Input};
     use gateway::{Items, Output, Policy, Range, Transmit, first_spi};
     use std::alloc::Global;
@@ -133,7 +133,8 @@ fn the_page_of_gateway(rt: HostRuntime) -> Result<(), Fail> {
     }
 
     // A turn of the loop: a packet for the other site, what comes from the peer, and the time. Here it jumps
-    // to what is due next; a real host sleeps until then, or until something comes.
+    // to what is due next at the end that began, and both are told it; a real host has a clock, and sleeps
+    // until its own gateway's next moment, or until something comes.
     fn turn(
         alloc: Global,
         count: &mut u8,
@@ -146,6 +147,7 @@ fn the_page_of_gateway(rt: HostRuntime) -> Result<(), Fail> {
         carry(alloc, count, b, a)?;
         if let Some(moment) = a.gateway.next_moment() {
             take(alloc, a, &Input::Tick { moment })?;
+            take(alloc, b, &Input::Tick { moment })?;
         }
         Ok(())
     }
