@@ -43,7 +43,7 @@ FIGURES = [
 # Blocks of a page that show what an example prints: the page, the block's first line, and the file that has it.
 QUOTED = [
     ("README.md", "request 1 ike 1 length 148", "examples/two.out"),
-    ("README.md", "$ gw show examples/cookie.hex", "examples/cookie.shown"),
+    ("docs/FORMATS.md", "$ gw show examples/cookie.hex", "examples/cookie.shown"),
 ]
 
 
