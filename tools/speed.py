@@ -1,7 +1,7 @@
 #!/usr/bin/env python3
-"""Times sealing and opening of lists of packets beside one by one: builds crates/tool_times for the default target and for x86-64-v3, runs it, and
-prints the ratios of docs/MEASURES.md. Ends with status 1 where a list is slower than its packets one by one, or not as much faster as
-LEAST says. For a machine that does nothing else.
+"""Times lists of packets beside one by one: by the calls of esp (crates/tool_times), and through a gateway, by run beside step
+(crates/tool_runs). Builds both for the default target and for x86-64-v3, runs them, and prints the ratios of docs/MEASURES.md. Ends with status 1
+where a list is slower than its packets one by one, or not as much faster as LEAST and LEAST_RUNS say. For a machine that does nothing else.
 """
 import pathlib
 import shutil
@@ -10,7 +10,7 @@ import subprocess
 import sys
 import tempfile
 
-CRATE = pathlib.Path(__file__).resolve().parent.parent / "crates" / "tool_times"
+CRATES = pathlib.Path(__file__).resolve().parent.parent / "crates"
 TARGETS = {"default": [], "x86-64-v3": ["--cpu=x86-64-v3"]}
 
 # The count of packets and the sizes of their payloads, in turn.
@@ -31,12 +31,15 @@ LISTS = [
 LEAST = {(64, (1400,)): 4.0, (64, (64, 576, 1400)): 3.5}
 LOSS = 0.95
 
+# The same of lists through a gateway: how many packets of how many octets, and how many times as fast they come in and go out at x86-64-v3.
+LEAST_RUNS = {(64, 1400): (4.0, 2.8), (64, 64): (2.5, 2.5), (8, 1400): (LOSS, LOSS), (1, 1400): (LOSS, LOSS)}
 
-def built(folder, target, flags):
-    """The program, built for a target."""
-    subprocess.run(["rt", "run", *flags, "--", "seal", "1", "1", "64"], cwd=CRATE, check=True, stdout=subprocess.DEVNULL)
-    program = pathlib.Path(folder) / target
-    shutil.copy(CRATE / "out" / "tool_times", program)
+
+def built(folder, crate, target, flags, words):
+    """The program of a crate, built for a target."""
+    subprocess.run(["rt", "run", *flags, "--", *words.split()], cwd=CRATES / crate, check=True, stdout=subprocess.DEVNULL)
+    program = pathlib.Path(folder) / f"{crate}-{target}"
+    shutil.copy(CRATES / crate / "out" / crate, program)
     return program
 
 
@@ -53,18 +56,35 @@ def ratio(program, task, count, sizes):
     return statistics.median(turns)
 
 
-def main():
-    wrong = []
+def times_of_lists(folder):
+    """Prints the ratios of the calls of esp, and yields what is too slow."""
     print("| Packets | Target | Sealing | Opening |\n| --- | --- | --- | --- |")
+    for target, flags in TARGETS.items():
+        program = built(folder, "tool_times", target, flags, "seal 1 1 64")
+        for count, sizes in LISTS:
+            found = [ratio(program, task, count, sizes) for task in ("seal", "open")]
+            name = f"{count} of {', '.join(f'{size:,}' for size in sizes)}"
+            print(f"| {name} | {target} | {found[0]:.2f} | {found[1]:.2f} |", flush=True)
+            least = LEAST.get((count, tuple(sizes)), LOSS) if flags else LOSS
+            yield from (f"{name} at {target}: {value:.2f}" for value in found if value < least)
+
+
+def times_of_runs(folder):
+    """The same of lists through a gateway."""
+    print("\n| Packets through a gateway | Target | In | Out |\n| --- | --- | --- | --- |")
+    for target, flags in TARGETS.items():
+        program = built(folder, "tool_runs", target, flags, "in 1 1 64")
+        for (count, size), least in LEAST_RUNS.items():
+            found = [ratio(program, task, count, [size]) for task in ("in", "out")]
+            name = f"{count} of {size:,}"
+            print(f"| {name} | {target} | {found[0]:.2f} | {found[1]:.2f} |", flush=True)
+            bounds = least if flags else (LOSS, LOSS)
+            yield from (f"{name} through a gateway at {target}: {value:.2f}" for value, bound in zip(found, bounds) if value < bound)
+
+
+def main():
     with tempfile.TemporaryDirectory() as folder:
-        for target, flags in TARGETS.items():
-            program = built(folder, target, flags)
-            for count, sizes in LISTS:
-                found = [ratio(program, task, count, sizes) for task in ("seal", "open")]
-                name = f"{count} of {', '.join(f'{size:,}' for size in sizes)}"
-                print(f"| {name} | {target} | {found[0]:.2f} | {found[1]:.2f} |", flush=True)
-                least = LEAST.get((count, tuple(sizes)), LOSS) if flags else LOSS
-                wrong += [f"{name} at {target}: {value:.2f}" for value in found if value < least]
+        wrong = [*times_of_lists(folder), *times_of_runs(folder)]
     for line in wrong:
         print(f"not as fast as it should be: {line}", file=sys.stderr)
     return 1 if wrong else 0

@@ -1,5 +1,6 @@
 #!/usr/bin/env python3
-"""Refuses each allocation of crates/tool_memory in turn, alone and with all after it, and looks at what the program says of it.
+"""Refuses each allocation of crates/tool_memory in turn, alone and with all after it, and looks at what the program says of it: by which words
+the step was refused that wanted it, E10, E20, E24 or E27, of which each has to come.
 
 From anywhere, after (cd crates/tool_memory && rt run): python3 tools/want_of_memory.py. The C library's allocator is put aside by a small
 library of C, which is built with cc. Alone, the program has to find that all is as with memory, or that memory was wanted for its own
@@ -8,6 +9,7 @@ gate. Ends with status 1 where the program says anything else, or doesn't end by
 """
 import collections
 import pathlib
+import re
 import subprocess
 import sys
 import tempfile
@@ -62,17 +64,24 @@ int posix_memalign(void **at, size_t align, size_t size) {
 }
 """
 
-ALONE = {
-    ("all as with memory, nothing refused", 0),
-    ("all as with memory, one step refused and given again", 0),
-    ("no memory", 3),
-}
-ONWARD = {("no memory", 3), ("all as with memory, nothing refused", 0)}
+# What may be said, with its status.
+AGAIN = r"all as with memory, one step refused and given again: (E\d+): .*"
+NOTHING = r"all as with memory, nothing refused"
+WITHOUT = r"no memory"
+ALONE = {AGAIN: 0, NOTHING: 0, WITHOUT: 3}
+ONWARD = {NOTHING: 0, WITHOUT: 3}
+
+# Each of these wants memory somewhere on the way.
+CODES = {"E10", "E20", "E24", "E27"}
 
 
 def run(library, **environment):
     ran = subprocess.run([PROGRAM], env={"LD_PRELOAD": str(library), **environment}, capture_output=True, text=True, timeout=60)
     return ran.stdout.strip(), ran.returncode
+
+
+def is_allowed(said, status, allowed):
+    return any(re.fullmatch(words, said) and status == wanted for words, wanted in allowed.items())
 
 
 def main():
@@ -84,18 +93,22 @@ def main():
         counted = room / "counted"
         print("with memory:", *run(library, COUNTED=str(counted)))
         calls = int(counted.read_text())
-        wrong = 0
+        wrong, codes = 0, []
         for words, allowed in (({}, ALONE), ({"ONWARD": "1"}, ONWARD)):
             found = collections.Counter()
             for number in range(1, calls + 1):
                 said = run(library, REFUSED=str(number), **words)
                 found[said] += 1
-                if said not in allowed:
+                if not is_allowed(*said, allowed):
                     wrong += 1
                     print(f"allocation {number}{' and all after it' if words else ''}: {said}")
             print("with all after it refused:" if words else "each alone refused:")
             for (said, status), times in sorted(found.items()):
                 print(f"  {times} times: {said} (status {status})")
+                codes += re.findall(AGAIN, said)
+        for code in sorted(CODES - set(codes)):
+            wrong += 1
+            print(f"nothing was refused as {code}")
     return 1 if wrong else 0
 
 

@@ -1,7 +1,7 @@
 //! Two gateways, the way that they go together, and what they sent on it.
 use base::Items;
 use caller_script::ScriptCaller;
-use gateway::{End, Gateway, Output};
+use gateway::{End, Gateway, Output, Reason};
 use std::alloc::{AllocError, AllocFailed, Global};
 use test_samples::{
     OwnedInput, SampleFault, fresh, further, gateway, message, order, packet_out, probe,
@@ -101,8 +101,8 @@ enum Taken {
     Sent(Items<u8>),
     // It sent nothing.
     Nothing,
-    // It was refused on allocation failure.
-    Wanting,
+    // It was refused on allocation failure, in these words.
+    Wanting(Reason),
     // It was refused or dropped for another reason.
     Refused,
 }
@@ -133,13 +133,11 @@ impl Link {
         })
     }
 
-    /// Goes the whole way; answers how many steps were refused on allocation failure, and given again.
-    pub fn go(&mut self, alloc: Global) -> Result<u32, Trouble> {
-        let mut refused: u32 = 0;
+    /// Goes the whole way; answers what was refused last on allocation failure, and given again.
+    pub fn go(&mut self, alloc: Global) -> Result<Option<Reason>, Trouble> {
+        let mut refused = None;
         for &(end, given) in WAY {
-            if self.was_refused(alloc, end, given)? {
-                refused = refused.saturating_add(1);
-            }
+            refused = self.refused(alloc, end, given)?.or(refused);
         }
         Ok(refused)
     }
@@ -149,16 +147,21 @@ impl Link {
         self.sent == other.sent
     }
 
-    // One step, once more where it was refused on allocation failure: whether it was.
-    fn was_refused(&mut self, alloc: Global, end: End, given: Given) -> Result<bool, Trouble> {
+    // One step, once more where it was refused on allocation failure: in which words it was.
+    fn refused(
+        &mut self,
+        alloc: Global,
+        end: End,
+        given: Given,
+    ) -> Result<Option<Reason>, Trouble> {
         let input = self.given(alloc, given)?;
         let gateway = match end {
             End::A => &mut self.a,
             End::B => &mut self.b,
         };
-        let (taken, is_refused) = take_again(gateway, alloc, &input)?;
+        let (taken, refused) = take_again(gateway, alloc, &input)?;
         self.keep(taken)?;
-        Ok(is_refused)
+        Ok(refused)
     }
 
     // Keeps what was sent.
@@ -166,7 +169,7 @@ impl Link {
         match taken {
             Taken::Sent(octets) => Ok(self.sent.push(octets)?),
             Taken::Nothing => Ok(()),
-            Taken::Wanting => Err(Trouble::Memory),
+            Taken::Wanting(_) => Err(Trouble::Memory),
             Taken::Refused => Err(Trouble::Other),
         }
     }
@@ -225,18 +228,18 @@ fn sealed(alloc: Global, octets: &[u8]) -> Result<OwnedInput, AllocError> {
     Ok(OwnedInput::Esp { octets })
 }
 
-// Gives a gateway an input, once more where it is refused on allocation failure: what came of it, and whether
-// it was.
+// Gives a gateway an input, once more where it is refused on allocation failure: what came of it, and in
+// which words it was.
 fn take_again(
     gateway: &mut Gateway<ScriptCaller>,
     alloc: Global,
     input: &OwnedInput,
-) -> Result<(Taken, bool), Trouble> {
+) -> Result<(Taken, Option<Reason>), Trouble> {
     let before = look_at(gateway);
     match take(gateway, alloc, input) {
-        Taken::Wanting if look_at(gateway) != before => Err(Trouble::Changed),
-        Taken::Wanting => Ok((take(gateway, alloc, input), true)),
-        taken => Ok((taken, false)),
+        Taken::Wanting(_) if look_at(gateway) != before => Err(Trouble::Changed),
+        Taken::Wanting(reason) => Ok((take(gateway, alloc, input), Some(reason))),
+        taken => Ok((taken, None)),
     }
 }
 
@@ -267,7 +270,7 @@ fn take(gateway: &mut Gateway<ScriptCaller>, alloc: Global, input: &OwnedInput) 
             None => Taken::Nothing,
         },
         Output::Refused { reason } | Output::Dropped { reason } => match reason.code() {
-            10 | 20 | 24 | 27 => Taken::Wanting,
+            10 | 20 | 24 | 27 => Taken::Wanting(reason),
             _ => Taken::Refused,
         },
         _ => Taken::Nothing,

@@ -7,44 +7,56 @@
 //! timers are as they were. `tools/want_of_memory.py` runs this program with each of its allocations refused
 //! in turn, alone and with all after it.
 //!
-//! It prints what was found. The exit status is 0 where all is as it should be, 1 where it isn't, and 3 where
+//! It prints what was found, with the words of what was refused. The exit status is 0 where all is as it should be, 1 where it isn't, and 3 where
 //! memory was wanted twice in a row, or for the program's own lists.
 #![tactic(auto)]
 
 mod link;
 
+use gateway::Reason;
 use link::{Link, Trouble};
 use std::alloc::Global;
+use std::io::Error;
 use std::process::ExitCode;
 
 fn main(rt: HostRuntime) -> ExitCode {
     let (said, status) = match play(rt.alloc()) {
-        Ok(0) => ("all as with memory, nothing refused", 0),
-        Ok(_) => ("all as with memory, one step refused and given again", 0),
-        Err(Trouble::Changed) => ("a refusal changed something", 1),
-        Err(Trouble::Other) => ("another answer than with memory", 1),
-        Err(Trouble::Memory) => ("no memory", 3),
+        Ok(refused) => (tell(&rt, refused), 0),
+        Err(Trouble::Changed) => (println!(rt; "a refusal changed something"), 1),
+        Err(Trouble::Other) => (println!(rt; "another answer than with memory"), 1),
+        Err(Trouble::Memory) => (println!(rt; "no memory"), 3),
     };
-    match println!(rt; "{said}") {
+    match said {
         Ok(()) => ExitCode::from(status),
         Err(_) => ExitCode::from(1),
     }
 }
 
-// Goes the way twice, and answers how many steps were refused on allocation failure.
-fn play(alloc: Global) -> Result<u32, Trouble> {
+// Says that all was as with memory, and what was refused and given again, if anything was.
+fn tell(rt: &HostRuntime, refused: Option<Reason>) -> Result<(), Error> {
+    match refused {
+        Some(reason) => println!(rt;
+            "all as with memory, one step refused and given again: {reason}"
+        ),
+        None => println!(rt; "all as with memory, nothing refused"),
+    }
+}
+
+// Goes the way twice, and answers what was refused last on allocation failure.
+fn play(alloc: Global) -> Result<Option<Reason>, Trouble> {
     let mut one = Link::new(alloc)?;
     play_beside(alloc, &mut one)
 }
 
-fn play_beside(alloc: Global, one: &mut Link) -> Result<u32, Trouble> {
+fn play_beside(alloc: Global, one: &mut Link) -> Result<Option<Reason>, Trouble> {
     let mut another = Link::new(alloc)?;
     go_both(alloc, one, &mut another)
 }
 
 // Both go the way, the first whole before the other, and have to send the same.
-fn go_both(alloc: Global, one: &mut Link, another: &mut Link) -> Result<u32, Trouble> {
-    let refused = one.go(alloc)?.saturating_add(another.go(alloc)?);
+fn go_both(alloc: Global, one: &mut Link, another: &mut Link) -> Result<Option<Reason>, Trouble> {
+    let refused = one.go(alloc)?;
+    let refused = another.go(alloc)?.or(refused);
     if one.has_sent_as(another) {
         Ok(refused)
     } else {

@@ -1,5 +1,5 @@
 //! Deletions that no script writes (RFC 7296, sections 1.4.1, 2.5, 2.21.3 and 3.11).
-use super::sealing::{INFORMATIONAL, INVALID_SYNTAX, NOTIFY, Sent, asked, counted};
+use super::sealing::{INFORMATIONAL, INVALID_SYNTAX, NOTIFY, Sent, asked, counted, reply_to};
 use super::{Side, agreed_twice, established, sent};
 use crate::tests::asserts::{add, holds, same};
 use base::Items;
@@ -78,6 +78,26 @@ fn beside_a_critical_payload(rt: HostRuntime) {
     let said = asked(&rt, alloc, &mut b, delete(3), &alone);
     same(&rt, said, Some((61, false)));
     holds(&rt, b.table.after(0).is_none());
+}
+
+/// The answer names the SPI under which B receives by that child, in a Delete of ESP (RFC 7296, section 1.4.1).
+#[test]
+fn the_answer_names_the_other_spi(rt: HostRuntime) {
+    let alloc = rt.alloc();
+    let mut b = established(&rt, alloc);
+    let [a, c, d, e] = inbound_spi(&rt, &b).to_be_bytes();
+    let asked = deletion(&rt, alloc, FIRST, 1);
+    let (reply, _) = reply_to(&rt, alloc, &mut b, delete(2), &asked).expect(&rt, "an answer");
+    // Behind the header and that of SK, whose next payload stands first: the payload, the pad length, the ICV.
+    same(&rt, reply.as_slice().get(28).copied(), Some(DELETE));
+    let named = [0, 0, 0, 12, 3, 4, 0, 1, a, c, d, e];
+    same(&rt, reply.as_slice().get(32..44), Some(named.as_slice()));
+}
+
+/// The SPI under which an end receives by its first child.
+fn inbound_spi(rt: &impl Abort, side: &Side) -> u32 {
+    let pair = side.table.after(0).expect(rt, "a child");
+    pair.inbound.spi()
 }
 
 /// A child that is named twice goes once, and is named once in the answer.

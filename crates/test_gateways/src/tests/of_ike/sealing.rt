@@ -1,6 +1,7 @@
 //! Messages under A's SPI 1 and B's 2 as the caller of scripts seals them under A's key, and what B says of them.
 use super::Side;
 use crate::tests::asserts::add;
+use base::Items;
 use ike::IkeOutput;
 use mac::icv;
 use std::alloc::Global;
@@ -74,10 +75,22 @@ pub fn asked(
     sent: Sent,
     payloads: &[u8],
 ) -> Option<(usize, bool)> {
+    let (octets, closed) = reply_to(rt, alloc, b, sent, payloads)?;
+    Some((octets.len(), closed))
+}
+
+/// The octets of B that answer A's request with these payloads, and whether the IKE SA is closed by it.
+pub fn reply_to(
+    rt: &impl Abort,
+    alloc: Global,
+    b: &mut Side,
+    sent: Sent,
+    payloads: &[u8],
+) -> Option<(Items<u8>, bool)> {
     let head = head(rt, alloc, sent.exchange, INITIATOR, sent.number);
     let octets = message(rt, head, sent.first, payloads, &b.key(rt));
     match b.take(rt, alloc, &octets, 40) {
-        IkeOutput::Reply { octets, closed } => Some((octets.len(), closed.is_some())),
+        IkeOutput::Reply { octets, closed } => Some((octets, closed.is_some())),
         _ => None,
     }
 }
