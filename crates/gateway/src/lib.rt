@@ -18,10 +18,15 @@
 //! # Inputs and outputs
 //!
 //! A host gives each datagram and packet as an [`Input`] that lends its octets, commands (`Start`, `Probe`,
-//! `DeleteChild`, `DeleteIke`), and times: milliseconds of a clock of its own, which never goes back.
+//! `DeleteChild`, `DeleteIke`), and times: milliseconds of a clock of its own, which never goes back. **All
+//! timers run from the last `Tick`, at first from 0.** So a host gives one before each other input, whenever
+//! its clock has moved, and one at [`next_moment`](Gateway::next_moment). One does all that is due.
+//!
 //! `Start` names an entry by its place in the policy; with `ike: None` it begins a new IKE SA, with an IKE
-//! SA's serial it asks that one for an additional Child SA. Serials count from 1, and
-//! `table().after(0)` is the first child there is. [`Fresh`] is random octets, drawn anew for each input.
+//! SA's serial it asks that one for an additional Child SA. Serials count from 1; `table().after(0)` is the
+//! first child there is, if any, and has its own serial and its IKE SA's. [`Fresh`] is random octets, drawn
+//! anew for each input. To replace a Child SA, `Start` a new one, and `DeleteChild` the old one once the new
+//! one carries.
 //!
 //! What comes is an [`Output`], which prints as one line:
 //!
@@ -36,8 +41,10 @@
 //!   was taken already`), `Refused` where a command can't be carried out or memory ran out, `Discarded`
 //!   where the policy says so, or no entry covers the packet.
 //!
-//! E10, E20, E24 and E27 mean that memory ran out: nothing changed, and the same input may be given again.
-//! E32 and E35 on a command mean later: the IKE SA isn't established, or the peer has to answer first.
+//! [`reason`](Output::reason) tells why nothing came of an input, and its `code` the number behind `E`. E10,
+//! E20, E24 and E27 mean that memory ran out: nothing changed, and the same input may be given again. E32 and
+//! E35 on a command mean later: the IKE SA isn't established, or an earlier request waits for its response.
+//! E28 is the usual drop: there is no SA (yet, or any more) that the packet or the datagram is for.
 //!
 //! Three things are called a secret. That of [`Config::new`] makes cookies; `Fresh::secret` is this end's
 //! half of one key agreement; the pre-shared secret of a peer is in the caller. `caller_peer::PeerCaller` is
@@ -165,8 +172,8 @@
 //! }
 //!
 //! // A turn of the loop: a packet for the other site, what comes from the peer, and the time. Here it jumps
-//! // to what is due next at the end that began, and both are told it; a real host has a clock, and sleeps
-//! // until its own gateway's next moment, or until something comes.
+//! // to what is due next at the end that began, and both are told it. A real host sleeps until its own
+//! // gateway's next moment, or until something comes, and tells its clock's time first.
 //! fn turn(
 //!     alloc: Global,
 //!     count: &mut u8,

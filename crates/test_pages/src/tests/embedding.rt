@@ -133,8 +133,8 @@ fn the_page_of_gateway(rt: HostRuntime) -> Result<(), Fail> {
     }
 
     // A turn of the loop: a packet for the other site, what comes from the peer, and the time. Here it jumps
-    // to what is due next at the end that began, and both are told it; a real host has a clock, and sleeps
-    // until its own gateway's next moment, or until something comes.
+    // to what is due next at the end that began, and both are told it. A real host sleeps until its own
+    // gateway's next moment, or until something comes, and tells its clock's time first.
     fn turn(
         alloc: Global,
         count: &mut u8,
