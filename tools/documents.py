@@ -42,7 +42,7 @@ FIGURES = [
 
 # Blocks of a page that show what an example prints: the page, the block's first line, and the file that has it.
 QUOTED = [
-    ("README.md", "request 1 ike 1 length 148", "examples/two.out"),
+    ("README.md", "sealed 5 child 1 number 1 length 48", "examples/two.out"),
     ("docs/FORMATS.md", "$ gw show examples/cookie.hex", "examples/cookie.shown"),
 ]
 
