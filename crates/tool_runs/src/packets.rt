@@ -27,7 +27,7 @@ pub fn packet(alloc: Global, octets: usize) -> Option<Vec<u8>> {
     for octet in header(length) {
         packet.push(octet).ok()?;
     }
-    while packet.len() < octets {
+    for _ in packet.len()..octets {
         packet.push(7).ok()?;
     }
     Some(packet)
