@@ -1,4 +1,5 @@
-//! Lists of inputs of all kinds, of each length from 1 to 70: what `run` makes of a list is what `step` makes of its inputs.
+//! Lists of inputs of all kinds, of each length from 1 to 70: `run` makes of a list what `step` makes of its
+//! inputs.
 mod packets;
 mod twins;
 

@@ -1,4 +1,5 @@
-//! Two gateways that are A both, and B. One twin takes each list by a call of `run`, the other its inputs one by one.
+//! Two gateways that are A both, and B. One twin takes each list by a call of `run`, the other its inputs one
+//! by one.
 use super::packets::{arriving, outbound, sealed};
 use crate::tests::random::Random;
 use base::Items;
