@@ -1,9 +1,10 @@
 //! A gateway behind a handle.
-ghost use Rattle.std.specs.Prelude.{◌≡◌};
+ghost use Rattle.std.specs.Prelude.{◌≡◌, MatchOption};
 ghost use Rattle.gateway.specs.Inputs.{input_view};
 ghost use Rattle.gateway.specs.Outputs.{output_view};
 ghost use Rattle.sukperin.specs.Outputs.{left_of};
 ghost use Rattle.sukperin.specs.Inputs.{TakesInput};
+ghost use Rattle.sukperin.specs.Views.{closing_in, message_at};
 
 use crate::output::SukOutput;
 use crate::room::write_front;
@@ -57,7 +58,10 @@ impl Left {
     }
 
     // The message of IKE at a place, with the IKE SA that asks by it.
-    pub fn message(&self, place: u64) -> Option<(u32, &[u8])> {
+    pub fn message(&self, place: u64) -> Option<(u32, &[u8])>
+        ensures { MatchOption result (message_at self.now place ≡ None)
+            (λ message. message_at self.now place ≡ Some (message.0, message.1.now)) }
+    {
         match self {
             Left::Message { ike, octets } => {
                 if place == 0 {
@@ -66,16 +70,18 @@ impl Left {
                     None
                 }
             }
-            Left::Ticked { requests, .. } => {
-                let request = requests.as_slice().get(place as usize)?;
-                Some((request.ike, request.octets.as_slice()))
-            }
+            Left::Ticked { requests, .. } => match requests.as_slice().get(place as usize) {
+                Some(request) => Some((request.ike, request.octets.as_slice())),
+                None => None,
+            },
             Left::Nothing => None,
         }
     }
 
     // The closed IKE SA at a place.
-    pub fn closing(&self, place: u64) -> Option<u32> {
+    pub fn closing(&self, place: u64) -> Option<u32>
+        ensures { result ≡ closing_in self.now place }
+    {
         match self {
             Left::Ticked { closed, .. } => closed.as_slice().get(place as usize).copied(),
             _ => None,

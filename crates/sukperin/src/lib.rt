@@ -19,6 +19,9 @@
 //! room; messages of IKE are kept until the next input, and taken by `suk_message`.
 //!
 //! # What is proved
+//! - `suk_new` makes the gateway of the configuration, the policy, the secrets and the first SPI that its
+//!   arguments spell, with no IKE SA and no Child SA. A refused call leaves the handle, and its code tells
+//!   why.
 //! - `suk_sender` and `suk_receiver` make the end that their arguments spell. A refused call leaves the
 //!   handle.
 //! - `suk_seal` writes the packet that [`esp::Outbound::seal`] seals at the beginning of the room, tells
@@ -29,13 +32,15 @@
 //! - Each input but `suk_outward` takes one step of the gateway ([`gateway::Gateway::traced_step`]) with
 //!   the input that its arguments spell; the record tells the step's output and trace, and what is left to
 //!   be taken are that output's messages.
-//! - Views leave what the handle leads to as it was.
+//! - Views leave what the handle leads to as it was, and tell what it holds: the next moment, messages that
+//!   are left, IKE SAs that were closed, Child SAs with their selectors, and all IKE SAs. Where they find
+//!   nothing they tell nothing.
+//! - `suk_keys` tells the keys of an IKE SA, and only where the gateway's terms allowed that.
 //! - Every call returns, whatever the octets and the codes, and each end that is made is freed at most
 //!   once.
 //!
-//! Not proved, beyond that they return and touch nothing else: what `suk_outward` does, that the lists
-//! (`suk_esp_all`, `suk_outward_all`) are as so many single calls, what views tell, and that a new gateway
-//! is the one that its terms spell.
+//! Not proved, beyond that they return and touch nothing else: what `suk_outward` does, and that the lists
+//! (`suk_esp_all`, `suk_outward_all`) are as so many single calls.
 //!
 //! # What is trusted to C
 //! - A handle begins as all zeros and is changed by these calls alone. It has one owner: it may be moved,
@@ -56,6 +61,7 @@ mod handle;
 mod held;
 mod hosted;
 mod inputs;
+mod keys;
 mod lists;
 mod making;
 mod output;

@@ -1,8 +1,10 @@
 //! The terms of a gateway, as C spells them, and what the core makes of them.
-ghost use Rattle.std.specs.Prelude.{◌≡◌, ◌↔◌, IsTrue, IfOk, IfErr, IfSome, IfNone, take};
+ghost use Rattle.std.specs.Prelude.{◌≡◌, ◌↔◌, IsTrue, IfOk, IfErr, IfSome, IfNone, Some, take};
 ghost use Rattle.sadb.specs.Database.{IsStart};
 ghost use Rattle.setup.specs.Configs.{IsConfig};
-ghost use Rattle.sukperin.specs.Terms.{action_spelled, caller_spelled, config_between, config_spelled, end_spelled, entry_spelled, range_spelled, IsConfigRefusal};
+ghost use Rattle.sukperin.specs.Terms.{action_spelled, caller_spelled, config_between, config_spelled};
+ghost use Rattle.sukperin.specs.Terms.{end_spelled, entries_spelled, entry_spelled, range_spelled};
+ghost use Rattle.sukperin.specs.Terms.{IsConfigRefusal, IsEntriesRefusal, IsPolicyRefusal, SpellsPolicy};
 
 use crate::refusal::Refusal;
 use auth::Identity;
@@ -133,6 +135,7 @@ pub fn config_of(
     peer_id: &[u8],
 ) -> Result<Config, Refusal>
     ensures config { IfOk result (λ config. config ≡ config_spelled terms.now own_id.now peer_id.now) }
+    ensures usable { IfOk result IsConfig }
     ensures refused { IfErr result (IsConfigRefusal terms.now own_id.now peer_id.now) }
 {
     let own = match end_of(alloc, terms.own_kind, own_id, &terms.own_address) {
@@ -144,7 +147,10 @@ pub fn config_of(
         Err(refusal) => return Err(refusal),
     };
     match config_of_ends(terms, own, peer) {
-        Some(config) => Ok(config),
+        Some(config) => {
+            config.invariants_hold();
+            Ok(config)
+        }
         None => Err(Refusal::Configuration),
     }
 }
@@ -197,10 +203,14 @@ fn entry_of(entry: &SukEntry) -> Option<Entry>
 }
 
 // The entries in their order.
-fn entries_of(alloc: Global, entries: &[SukEntry]) -> Result<Items<Entry>, Refusal> {
+#[tactic(auto, using(crate::proofs::TermLemmas::spelled_more, crate::proofs::TermLemmas::spelled_none))]
+fn entries_of(alloc: Global, entries: &[SukEntry]) -> Result<Items<Entry>, Refusal>
+    ensures entries { IfOk result (λ spelled. entries_spelled entries.now ≡ Some spelled) }
+    ensures refused { IfErr result (IsEntriesRefusal entries.now) }
+{
     let mut spelled = Items::new(alloc);
-    for entry in entries {
-        let Some(entry) = entry_of(entry) else {
+    for given in entries {
+        let Some(entry) = entry_of(given) else {
             return Err(Refusal::Policy);
         };
         if spelled.push(entry).is_err() {
@@ -211,7 +221,10 @@ fn entries_of(alloc: Global, entries: &[SukEntry]) -> Result<Items<Entry>, Refus
 }
 
 // The policy of these entries, where it is one.
-pub fn policy_of(alloc: Global, entries: &[SukEntry]) -> Result<Policy, Refusal> {
+pub fn policy_of(alloc: Global, entries: &[SukEntry]) -> Result<Policy, Refusal>
+    ensures policy { IfOk result (SpellsPolicy entries.now) }
+    ensures refused { IfErr result (IsPolicyRefusal entries.now) }
+{
     match entries_of(alloc, entries) {
         Ok(entries) => match Policy::new(entries) {
             Ok(policy) => Ok(policy),
@@ -229,7 +242,8 @@ pub fn caller_of(
     own_secret: &[u8],
     peer_secret: &[u8],
 ) -> Result<PeerCaller, Refusal>
-    ensures caller { IfOk result (λ caller. caller ≡ caller_spelled terms.now peer_id.now own_secret.now peer_secret.now) }
+    ensures caller { IfOk result (λ caller.
+        caller ≡ caller_spelled terms.now peer_id.now own_secret.now peer_secret.now) }
     ensures refused { IfErr result (λ refusal. refusal ≡ Refusal.Memory) }
 {
     let (Ok(own), Ok(id), Ok(secret)) = (
