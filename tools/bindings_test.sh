@@ -70,9 +70,13 @@ if grep -q avx2 /proc/cpuinfo; then
 else skip "test.c at x86-64-v3: this processor hasn't it"; fi
 try "test.c, starving" runs test -DSTARVES -Wl,--wrap=malloc,--wrap=realloc "$prefix/lib/libsukperin.a"
 try "example.c" runs example "${shared_flags[@]}"
+try "what is given back is overwritten, shared" runs wipe_test -fno-builtin "${shared_flags[@]}"
+try "what is given back is overwritten, static" runs wipe_test -fno-builtin -DSTATIC "$prefix/lib/libsukperin.a"
+try "without wipe.c each secret is found" runs wipe_test -fno-builtin -DLEAVES "$prefix/lib/libsukperin.a"
+try "crossing, lists and allocations" runs crossing -O2 "$prefix/lib/libsukperin.a"
 fuzzes() {
-    gcc -std=c11 -O1 -g -fsanitize=address,undefined -fno-sanitize-recover=all "${strict[@]}" fuzz.c "$prefix/lib/libsukperin.a" -o "$work/fuzz" &&
-        "$work/fuzz" 1 "${SEEDS:-5}" "${CALLS:-3000}"
+    gcc -std=c11 -O1 -g -fsanitize=address,undefined -fno-sanitize-recover=all "${strict[@]}" fuzz.c "$prefix/lib/libsukperin.a" \
+        -o "$work/fuzz" && "$work/fuzz" 1 "${SEEDS:-5}" "${CALLS:-3000}"
 }
 try "calls in any order, under the sanitizers" fuzzes
 if has valgrind; then
@@ -85,8 +89,17 @@ else skip "test.c under valgrind: no valgrind"; fi
 cd "$top/bindings/python" || exit 2
 try "Python's tests" python3 -m unittest discover -s tests -t .
 for example in examples/*.py; do try "$example" python3 "$example"; done
-if python3 -c 'import mypy' 2>/dev/null; then
-    try "Python's types" python3 -m mypy --strict --cache-dir "$work/mypy" sukperin
+if has tshark; then
+    # Wireshark opens the messages of both ends with the keys that are told.
+    wireshark() {
+        python3 examples/wireshark.py "$work/exchange.pcap" >"$work/line" &&
+            tshark -V -r "$work/exchange.pcap" -o "uat:ikev2_decryption_table:$(cat "$work/line")" >"$work/shown" &&
+            test "$(grep -cE 'ID_FQDN: (left|right)\.example' "$work/shown")" = 2 && test "$(grep -cF '[correct]' "$work/shown")" = 2
+    }
+    try "Wireshark reads by these keys" wireshark
+else skip "Wireshark reads by these keys: no tshark"; fi
+if has mypy; then
+    try "Python's types" mypy --strict --cache-dir "$work/mypy" sukperin
 else skip "Python's types: no mypy"; fi
 
 # ---- Rust ----

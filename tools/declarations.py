@@ -31,6 +31,7 @@ RECORDS = [
     ("SukChild", "suk_child", "Child", "ChildRecord"),
     ("SukSelector", "suk_selector_told", "Selector", "SelectorRecord"),
     ("SukAssociation", "suk_ike_association", "Association", "IkeAssociationRecord"),
+    ("SukKeys", "suk_keys_told", "Keys", "KeysRecord"),
 ]
 HANDLES = ({"SukHandle"}, {"suk_gateway", "suk_association"}, {"Gateway", "End"}, {"GatewayHandle", "AssociationHandle"})
 HANDLE = [("private_at", "pointer"), ("private_live", "bool")]

@@ -333,6 +333,9 @@ static void look_at_tables(int end) {
     }
     REQUIRE(code == (uint32_t)(live ? SUK_E_NOTHING : SUK_E_NO_END));
     REQUIRE(sukperin_associations(&gateways[end], room, 160, &count) == (uint32_t)(live ? SUK_OK : SUK_E_NO_END) && count <= 160);
+    suk_keys_told keys;
+    code = sukperin_keys(&gateways[end], below(8), &keys);
+    REQUIRE(live ? code == SUK_OK || code == SUK_E_NOTHING : code == SUK_E_NO_END);
     code = sukperin_next(&gateways[end], &next);
     REQUIRE(live ? code == SUK_OK || code == SUK_E_NOTHING : code == SUK_E_NO_END);
 }

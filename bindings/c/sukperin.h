@@ -7,11 +7,16 @@
  *      place is dead; a copy of it is never used.
  *   2. No overlaps. What one pointer of a call leads to lies apart from what every other one does, room and packet too.
  *   3. Lengths. A pointer is good for the length that stands behind it, in octets or records. No length is above PTRDIFF_MAX.
- *   4. Alignment. A pointer is aligned for its type. malloc, realloc and free are one allocator's, and align to 16 octets.
+ *   4. Alignment. A pointer is aligned for its type. malloc, malloc_usable_size and free are one allocator's, and align to 16 octets.
  *   5. One thread a handle: it stays on the thread that made it; no signal handler, no forked child. Nothing proves that it may move.
  *   6. Fresh octets. What suk_fresh holds is drawn anew, unpredictably, for each input that takes one, also after one that is refused.
  *      If a nonce and a secret come again, keys come again.
  *   7. Numbers. A new sender under a key that was used before is given the last number that it was used with.
+ *
+ * What the library gives back to the system is overwritten first, key or not: when a gateway or an ESP SA ends, and what an input took for
+ * a while. At such an end so are 64 KiB of the stack below the call, as much as any call takes. Registers aren't. A gateway that goes on
+ * may keep what it needs no more in its blocks until they serve for something else. What the caller holds is the caller's to overwrite:
+ * secrets, keys, fresh octets, rooms, packets.
  *
  * The functions sukperin_* below check of this what can be checked, null and lengths, and answer SUK_E_NULL; else they are the same calls.
  *
@@ -86,7 +91,7 @@ uint32_t suk_seal(suk_association *, uint8_t next, const uint8_t *payload, size_
  * 19 (its padding; the number stays taken). */
 uint32_t suk_open(suk_association *, const uint8_t *packet, size_t, suk_opened *);
 
-/* Frees it, if there is one; the handle is all zeros afterwards. Its key isn't wiped from memory. */
+/* Overwrites and frees it, if there is one; the handle is all zeros afterwards. */
 void suk_end_association(suk_association *);
 
 /* ---- A gateway ---- */
@@ -106,7 +111,7 @@ typedef struct {
     uint32_t first_spi;          /* from 256 to 2^32 - 65,536; up to 65,536 are given from here on */
     uint8_t own_address[4], peer_address[4]; /* for the host's own use */
     uint8_t cookie_secret[32];               /* the first secret of its cookies: unpredictable */
-    uint8_t tells_keys;                      /* whether it may be asked for keys; no call does so yet */
+    uint8_t tells_keys;                      /* whether suk_keys tells the keys of its IKE SAs */
     uint8_t reserved[3];                     /* 0 */
 } suk_terms;
 
@@ -197,6 +202,14 @@ typedef struct {
     uint8_t window;   /* how many requests at once the peer takes */
 } suk_ike_association;
 
+/* The keys of an IKE SA (RFC 7296 section 2.14). Its initiator is the end that began it. */
+typedef struct {
+    uint8_t sk_d[32];             /* of which those of Child SAs are made */
+    uint8_t sk_ai[32], sk_ar[32]; /* integrity of what the initiator sends, and the responder */
+    uint8_t sk_ei[32], sk_er[32]; /* encryption of it */
+    uint8_t sk_pi[32], sk_pr[32]; /* proof of the initiator's identity, and the responder's */
+} suk_keys_told;
+
 /* The longest message has 3000 octets. */
 #define SUK_MESSAGE_ROOM 3000
 
@@ -205,7 +218,7 @@ typedef struct {
 uint32_t suk_new(suk_gateway *, const suk_terms *, const uint8_t *own_id, size_t, const uint8_t *peer_id, size_t, const uint8_t *own_psk,
                  size_t, const uint8_t *peer_psk, size_t, const suk_entry *, size_t);
 
-/* Frees it, if there is one; the handle is all zeros afterwards. Keys and secrets aren't wiped from memory. */
+/* Overwrites and frees it, if there is one, with its keys and secrets; the handle is all zeros afterwards. */
 void suk_end(suk_gateway *);
 
 /* All inputs: 101. Else 0, and the record tells what came of it; out of memory is SUK_REFUSED too. What the input before left to be
@@ -276,6 +289,10 @@ uint32_t suk_selector(suk_gateway *, uint32_t child, uint8_t remote, uint64_t pl
 /* The IKE SAs that are held, by rising serial. 101; 103 where the room has too few records, and then their count is told all
  * the same. */
 uint32_t suk_associations(suk_gateway *, suk_ike_association *, size_t, uint64_t *count);
+
+/* The keys of the IKE SA with this serial, for tests and for programs that read captured messages: they are secrets. 101; 108 where the
+ * terms didn't say tells_keys, no such IKE SA is held, or it has no keys yet. */
+uint32_t suk_keys(suk_gateway *, uint32_t ike, suk_keys_told *);
 
 /* ---- The same calls, with null and lengths looked at ---- */
 
@@ -433,6 +450,12 @@ static inline uint32_t sukperin_associations(suk_gateway *gateway, suk_ike_assoc
     if (gateway == NULL || room == NULL || records > PTRDIFF_MAX / sizeof(suk_ike_association) || count == NULL)
         return SUK_E_NULL;
     return suk_associations(gateway, room, records, count);
+}
+
+static inline uint32_t sukperin_keys(suk_gateway *gateway, uint32_t ike, suk_keys_told *told) {
+    if (gateway == NULL || told == NULL)
+        return SUK_E_NULL;
+    return suk_keys(gateway, ike, told);
 }
 
 static inline uint32_t sukperin_sender(suk_association *end, uint32_t spi, const uint8_t key[32], bool extended, uint64_t last) {

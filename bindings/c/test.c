@@ -1,23 +1,6 @@
 /* Each call of sukperin.h, and each refusal that can be brought about. The last line is 'N passed, M failed'.
- * Running out of memory is tried where it is built with -DSTARVES -Wl,--wrap=malloc,--wrap=realloc against the static library.
- * Randomness comes of a counter here, so that each run is the same: never do this outside a test. */
-#include <stdio.h>
-#include <stdlib.h>
-#include <string.h>
-#include <sukperin.h>
-
-static unsigned passed, failed;
-
-static void expect_at(int line, const char *what, uint64_t told, uint64_t wanted) {
-    if (told == wanted) {
-        passed++;
-        return;
-    }
-    failed++;
-    printf("line %d: %s is %llu, not %llu\n", line, what, (unsigned long long)told, (unsigned long long)wanted);
-}
-
-#define EXPECT(told, wanted) expect_at(__LINE__, #told, (uint64_t)(told), (uint64_t)(wanted))
+ * Running out of memory is tried where it is built with -DSTARVES -Wl,--wrap=malloc,--wrap=realloc against the static library. */
+#include "tests.h"
 
 /* ---- One ESP SA ---- */
 
@@ -223,111 +206,6 @@ static void extended_numbers(void) {
     sukperin_end_association(&plain);
 }
 
-/* ---- Two gateways ---- */
-
-typedef struct {
-    suk_gateway gateway;
-    uint8_t address[4];
-    uint8_t message[SUK_MESSAGE_ROOM];
-    size_t length;
-} host;
-
-static uint64_t drawn;
-
-static suk_fresh fresh(void) {
-    suk_fresh octets;
-    memset(&octets, 0, sizeof octets);
-    octets.spi = ++drawn;
-    for (size_t i = 0; i < 32; i++) octets.nonce[i] = octets.secret[i] = (uint8_t)(drawn * 31 + i * 7);
-    for (size_t i = 0; i < 16; i++) octets.seal[i] = (uint8_t)(drawn * 13 + i);
-    return octets;
-}
-
-static suk_octets text(const char *words) {
-    suk_octets octets = {(const uint8_t *)words, strlen(words)};
-    return octets;
-}
-
-/* Between 10.OWN.0.0/24 and 10.PEER.0.0/24, of all protocols and ports. */
-static suk_entry entry_between(uint8_t action, uint8_t own_net, uint8_t peer_net) {
-    suk_entry entry = {.family = 4, .action = action, .local_end_port = 65535, .remote_end_port = 65535};
-    memcpy(entry.local_start, (uint8_t[]){10, own_net, 0, 0}, 4);
-    memcpy(entry.local_end, (uint8_t[]){10, own_net, 0, 255}, 4);
-    memcpy(entry.remote_start, (uint8_t[]){10, peer_net, 0, 0}, 4);
-    memcpy(entry.remote_end, (uint8_t[]){10, peer_net, 0, 255}, 4);
-    return entry;
-}
-
-static suk_config config_of(const char *own, const char *peer, const suk_entry *entries, size_t count) {
-    suk_config config = {.terms = {.own_kind = 2, .peer_kind = 2, .extended = 1, .window = 1, .blocks = 2, .first_spi = 4096},
-                         .own_id = text(own),
-                         .peer_id = text(peer),
-                         .own_psk = text("secret"),
-                         .peer_psk = text("secret"),
-                         .entries = entries,
-                         .entry_count = count};
-    return config;
-}
-
-/* Protects to 10.PEER, and lets 10.9 pass. */
-static void open_host(host *end, const char *own, const char *peer, uint8_t own_net, uint8_t peer_net) {
-    suk_entry entries[2] = {entry_between(SUK_PROTECT, own_net, peer_net), entry_between(SUK_BYPASS, own_net, 9)};
-    suk_config config = config_of(own, peer, entries, 2);
-    memset(end, 0, sizeof *end);
-    memcpy(end->address, (uint8_t[]){192, 0, 2, own_net}, 4);
-    EXPECT(sukperin_new(&end->gateway, &config), SUK_OK);
-}
-
-static void take_message(host *end, const suk_output *output) {
-    suk_message_told told = {0, 0, 0};
-    if (output->messages > 0)
-        EXPECT(sukperin_message(&end->gateway, 0, end->message, sizeof end->message, &told), SUK_OK);
-    end->length = told.length;
-}
-
-static suk_output give(host *to, const uint8_t from[4], const uint8_t *datagram, size_t length) {
-    suk_output output;
-    memset(&output, 0, sizeof output);
-    suk_fresh octets = fresh();
-    EXPECT(sukperin_ike(&to->gateway, from, datagram, length, &octets, &output), SUK_OK);
-    take_message(to, &output);
-    return output;
-}
-
-static suk_output pass(host *from, host *to) { return give(to, from->address, from->message, from->length); }
-
-static suk_output start(host *end, uint32_t ike, uint32_t entry) {
-    suk_output output;
-    suk_fresh octets = fresh();
-    EXPECT(sukperin_start(&end->gateway, ike, entry, &octets, &output), SUK_OK);
-    take_message(end, &output);
-    return output;
-}
-
-/* The four messages, after which both ends hold child 1. */
-static void bring_up(host *a, host *b) {
-    open_host(a, "a.example", "b.example", 1, 2);
-    open_host(b, "b.example", "a.example", 2, 1);
-    suk_output output = start(a, 0, 0);
-    EXPECT(output.kind, SUK_REQUEST);
-    EXPECT(output.ike, 1);
-    EXPECT(output.messages, 1);
-    EXPECT(pass(a, b).kind, SUK_REPLY);
-    EXPECT(pass(b, a).kind, SUK_REQUEST);
-    EXPECT(pass(a, b).kind, SUK_REPLY);
-    output = pass(b, a);
-    EXPECT(output.kind, SUK_COUNTED);
-    EXPECT(output.ike, 1);
-    EXPECT(output.child, 1);
-    EXPECT(output.closed, 0);
-    EXPECT(output.messages, 0);
-}
-
-static void close_both(host *a, host *b) {
-    sukperin_end(&a->gateway);
-    sukperin_end(&b->gateway);
-    EXPECT(a->gateway.private_at == NULL && !a->gateway.private_live, true);
-}
 
 #ifdef STARVES
 static bool wants_memory(const suk_output *output) {
@@ -682,13 +560,6 @@ static void bring_up_twins(host pair[2], host twins[2]) {
     bring_up(&twins[0], &twins[1]);
 }
 
-/* From 10.1.0.1 to 10.TO.0.1, with so many octets behind the header. */
-static size_t packet_to(uint8_t to, size_t payload, uint8_t packet[128]) {
-    const uint8_t header[20] = {0x45, 0, 0, (uint8_t)(20 + payload), 0, 0, 0, 0, 64, 1, 0, 0, 10, 1, 0, 1, 10, to, 0, 1};
-    memcpy(packet, header, 20);
-    for (size_t i = 0; i < payload; i++) packet[20 + i] = (uint8_t)(i * 5 + payload);
-    return 20 + payload;
-}
 
 /* 150 packets on their way out, and what is sealed of them on its way in: in order, damaged, replayed, cut, and outside the buffer. */
 static void lists(void) {
@@ -781,6 +652,119 @@ static void lists(void) {
     EXPECT(sukperin_child_after(&pair[1].gateway, 0, &child), SUK_OK);
     EXPECT(sukperin_child_after(&twins[1].gateway, 0, &twin), SUK_OK);
     EXPECT(memcmp(&child, &twin, sizeof child), 0);
+    close_both(&pair[0], &pair[1]);
+    close_both(&twins[0], &twins[1]);
+}
+
+static uint32_t chance(uint32_t limit) { /* xorshift32 */
+    static uint32_t state = 2463534242;
+    state ^= state << 13;
+    state ^= state >> 17;
+    state ^= state << 5;
+    return state % limit;
+}
+
+static bool is_there(suk_place place, size_t length) { return place.offset <= length && place.length <= length - place.offset; }
+
+/* A place that mostly isn't in the octets of a list. */
+static void append_misplaced(list *to) {
+    static const uint64_t far[3] = {UINT64_MAX, UINT64_MAX / 2 + 1, 0};
+    uint64_t offset = chance(2) ? chance((uint32_t)to->length + 2) : far[chance(3)];
+    append_place(to, offset, chance(2) ? chance(40) : far[chance(3)]);
+}
+
+/* Gives a list of packets on their way out to an end, and each of them to its twin: the records and both rooms are the same. */
+static void give_outward(host *end, host *twin, list *out, size_t room_length, uint8_t *room, uint8_t *twin_room) {
+    size_t used = 0;
+    memset(room, 0xee, room_length);
+    memset(twin_room, 0xee, room_length);
+    EXPECT(sukperin_outward_all(&end->gateway, out->octets, out->length, out->places, out->count, room, room_length, out->outputs, LISTED),
+           SUK_OK);
+    for (size_t i = 0; i < out->count; i++) {
+        suk_place place = out->places[i];
+        if (!is_there(place, out->length)) {
+            out->single[i] = refused(SUK_E_PLACE);
+        } else if (room_length - used < SUK_ROOM(place.length)) {
+            out->single[i] = refused(SUK_E_ROOM);
+        } else {
+            EXPECT(sukperin_outward(&twin->gateway, out->octets + place.offset, place.length, twin_room + used, room_length - used,
+                                    &out->single[i]),
+                   SUK_OK);
+            if (out->single[i].kind == SUK_SEALED) {
+                out->single[i].offset = used;
+                used += out->single[i].length;
+            }
+        }
+    }
+    EXPECT(same_records(out), true);
+    EXPECT(memcmp(room, twin_room, room_length), 0);
+}
+
+/* The same of ESP packets that came. */
+static void give_esp(host *end, host *twin, list *in) {
+    EXPECT(sukperin_esp_all(&end->gateway, in->octets, in->length, in->places, in->count, in->outputs, LISTED), SUK_OK);
+    for (size_t i = 0; i < in->count; i++) {
+        suk_place place = in->places[i];
+        if (!is_there(place, in->length))
+            in->single[i] = refused(SUK_E_PLACE);
+        else
+            EXPECT(sukperin_esp(&twin->gateway, in->octets + place.offset, place.length, &in->single[i]), SUK_OK);
+    }
+    EXPECT(same_records(in), true);
+}
+
+/* Lists of up to 130 packets by chance: new ones, replays, late ones, damaged, cut, misplaced, and rooms that end too early. A late one
+ * lies below the window (15), or where numbers are extended is taken for one of the next 2^32 (18). */
+static void lists_by_chance(void) {
+    enum { ROUNDS = 300, MOST = 130, POOL = 256 };
+    static list out, in;
+    static uint8_t room[LISTED * 128], twin_room[LISTED * 128], pool[POOL][128];
+    static size_t lengths[POOL];
+    host pair[2], twins[2];
+    uint8_t packet[128];
+    size_t pooled = 0, came = 0;
+    unsigned by_code[SUK_E_PLACE + 1] = {0};
+    bring_up_twins(pair, twins);
+    for (int round = 0; round < ROUNDS; round++) {
+        out.length = out.count = in.length = in.count = 0;
+        for (size_t left = chance(MOST + 1); left > 0; left--) {
+            uint32_t kind = chance(20);
+            size_t length = packet_to(kind == 0 ? 9 : kind == 1 ? 8 : 2, chance(80), packet);
+            if (kind == 2)
+                append_misplaced(&out);
+            else
+                append(&out, packet, length - (kind == 3));
+        }
+        give_outward(&pair[0], &twins[0], &out, chance(4) ? sizeof room : 1 + chance(sizeof room / 2), room, twin_room);
+        for (size_t i = 0; i < out.count; i++) {
+            by_code[out.outputs[i].code]++;
+            if (out.outputs[i].kind != SUK_SEALED)
+                continue;
+            lengths[pooled % POOL] = out.outputs[i].length;
+            memcpy(pool[pooled++ % POOL], room + out.outputs[i].offset, out.outputs[i].length);
+        }
+        for (size_t left = pooled == 0 ? 0 : chance(MOST + 1); left > 0; left--) {
+            uint32_t kind = chance(20);
+            size_t most = pooled < POOL ? pooled : POOL, which = kind < 5 || came >= pooled ? chance((uint32_t)most) : came++ % POOL;
+            memcpy(packet, pool[which], lengths[which]);
+            if (kind == 5)
+                packet[chance((uint32_t)lengths[which])] ^= (uint8_t)(1 << chance(8));
+            if (kind == 6)
+                append_misplaced(&in);
+            else
+                append(&in, packet, kind == 7 ? chance((uint32_t)lengths[which]) : lengths[which]);
+        }
+        give_esp(&pair[1], &twins[1], &in);
+        for (size_t i = 0; i < in.count; i++) by_code[in.outputs[i].code]++;
+    }
+    const unsigned wanted[9] = {0, 14, extended ? 18 : 15, 16, 18, 21, 28, SUK_E_ROOM, SUK_E_PLACE};
+    for (size_t i = 0; i < 9; i++) EXPECT(by_code[wanted[i]] > 20, true);
+    for (size_t i = 0; i < 2; i++) {
+        suk_child child, twin;
+        EXPECT(sukperin_child_after(&pair[i].gateway, 0, &child), SUK_OK);
+        EXPECT(sukperin_child_after(&twins[i].gateway, 0, &twin), SUK_OK);
+        EXPECT(memcmp(&child, &twin, sizeof child), 0);
+    }
     close_both(&pair[0], &pair[1]);
     close_both(&twins[0], &twins[1]);
 }
@@ -943,6 +927,46 @@ static void tables(void) {
     close_both(&a, &b);
 }
 
+static void keys(void) {
+    host a, b;
+    suk_entry entries[2] = {entry_between(SUK_PROTECT, 1, 2), entry_between(SUK_PROTECT, 2, 1)};
+    suk_config configs[2] = {config_of("a.example", "b.example", &entries[0], 1), config_of("b.example", "a.example", &entries[1], 1)};
+    suk_keys_told told, other;
+    suk_gateway none = SUK_NONE;
+    memset(&a, 0, sizeof a);
+    memset(&b, 0, sizeof b);
+    configs[0].terms.tells_keys = 1;
+    configs[1].terms.tells_keys = 2; /* all but 0 is yes */
+    EXPECT(sukperin_new(&a.gateway, &configs[0]), SUK_OK);
+    EXPECT(sukperin_new(&b.gateway, &configs[1]), SUK_OK);
+    memset(&told, 0xee, sizeof told);
+    other = told;
+    EXPECT(sukperin_keys(&none, 1, &told), SUK_E_NO_END);
+    EXPECT(sukperin_keys(&a.gateway, 1, &told), SUK_E_NOTHING);
+    EXPECT(start(&a, 0, 0).kind, SUK_REQUEST);
+    EXPECT(sukperin_keys(&a.gateway, 1, &told), SUK_E_NOTHING); /* asked for: no keys yet */
+    EXPECT(memcmp(&told, &other, sizeof told), 0);
+    sukperin_end(&a.gateway);
+    EXPECT(sukperin_new(&a.gateway, &configs[0]), SUK_OK);
+    greet(&a, &b);
+    EXPECT(sukperin_keys(&a.gateway, 1, &told), SUK_OK);
+    EXPECT(sukperin_keys(&b.gateway, 1, &other), SUK_OK);
+    EXPECT(memcmp(&told, &other, sizeof told), 0);
+    const uint8_t *each[7] = {told.sk_d, told.sk_ai, told.sk_ar, told.sk_ei, told.sk_er, told.sk_pi, told.sk_pr};
+    for (size_t i = 0; i < 7; i++)
+        for (size_t j = 0; j < i; j++) EXPECT(memcmp(each[i], each[j], 32) != 0, true);
+    EXPECT(sukperin_keys(&a.gateway, 2, &told), SUK_E_NOTHING);
+    EXPECT(sukperin_keys(&a.gateway, 0, &told), SUK_E_NOTHING);
+    EXPECT(memcmp(&told, &other, sizeof told), 0);
+    EXPECT(sukperin_keys(NULL, 1, &told), SUK_E_NULL);
+    EXPECT(sukperin_keys(&a.gateway, 1, NULL), SUK_E_NULL);
+    close_both(&a, &b);
+    bring_up(&a, &b); /* of terms that don't say so */
+    EXPECT(sukperin_keys(&a.gateway, 1, &told), SUK_E_NOTHING);
+    EXPECT(memcmp(&told, &other, sizeof told), 0);
+    close_both(&a, &b);
+}
+
 static void orders_to_delete(void) {
     host a, b;
     bring_up(&a, &b);
@@ -1034,9 +1058,14 @@ int main(void) {
     configurations();
     packets();
     lists();
+    lists_by_chance();
+    extended = 0;
+    lists_by_chance();
+    extended = 1;
     lists_that_are_refused();
     messages();
     tables();
+    keys();
     orders_to_delete();
     time_passes();
     texts();

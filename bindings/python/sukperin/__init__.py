@@ -17,10 +17,10 @@ from .gateway import Gateway
 from .outputs import (Clear, Counted, Discarded, Done, Dummy, Output, Repeat, Reply, Request, Resent, Sealed, Ticked, Up)
 from .refusals import CallFault, Dropped, Error, Refusal, Refused
 from .settings import Action, Entry, Fresh, Identity
-from .tables import Association, Child, Phase, Role, Selector
+from .tables import Association, Child, Keys, Phase, Role, Selector
 
 __all__ = [
     "Action", "Association", "CallFault", "Child", "Clear", "Counted", "Discarded", "Done", "Dropped", "Dummy", "Entry", "Error", "Fresh",
-    "Gateway", "Identity", "Inbound", "Opened", "Outbound", "Output", "Packet", "Phase", "Refusal", "Refused", "Repeat", "Reply",
+    "Gateway", "Identity", "Inbound", "Keys", "Opened", "Outbound", "Output", "Packet", "Phase", "Refusal", "Refused", "Repeat", "Reply",
     "Request", "Resent", "Role", "Sealed", "Selector", "Ticked", "Up",
 ]

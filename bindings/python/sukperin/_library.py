@@ -81,6 +81,13 @@ class IkeAssociationRecord(Structure):
     ]
 
 
+class KeysRecord(Structure):
+    _fields_ = [
+        ("sk_d", c_uint8 * 32), ("sk_ai", c_uint8 * 32), ("sk_ar", c_uint8 * 32), ("sk_ei", c_uint8 * 32), ("sk_er", c_uint8 * 32),
+        ("sk_pi", c_uint8 * 32), ("sk_pr", c_uint8 * 32),
+    ]
+
+
 NUMBERS = (c_uint8, c_uint32, c_uint64, c_size_t)
 
 # Octets that are read are given as `bytes`, and each is followed by its length; lists of records are followed by their count.
@@ -113,6 +120,7 @@ CALLS: "dict[str, tuple[Any, list[Any]]]" = {
     "suk_child_after": (c_uint32, [POINTER(GatewayHandle), c_uint32, POINTER(ChildRecord)]),
     "suk_selector": (c_uint32, [POINTER(GatewayHandle), c_uint32, c_uint8, c_uint64, POINTER(SelectorRecord)]),
     "suk_associations": (c_uint32, [POINTER(GatewayHandle), c_void_p, c_size_t, POINTER(c_uint64)]),
+    "suk_keys": (c_uint32, [POINTER(GatewayHandle), c_uint32, POINTER(KeysRecord)]),
 }
 
 

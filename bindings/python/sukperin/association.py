@@ -41,7 +41,7 @@ class _End:
             raise ValueError("a key has 32 octets")
 
     def close(self) -> None:
-        """Frees it; its key isn't wiped from memory. Any call after that raises 101."""
+        """Overwrites and frees it; the key that was given to it stays the caller's. Any call after that raises 101."""
         LIBRARY.suk_end_association(byref(self._handle))
 
     def __enter__(self): # type: ignore[no-untyped-def]

@@ -14,7 +14,7 @@ from .association import ESP_OCTETS
 from .outputs import (KINDS, Clear, Counted, Discarded, Done, Dummy, Output, Repeat, Reply, Request, Resent, Sealed, Ticked, Up)
 from .refusals import CallFault, Dropped, Refusal, Refused, check
 from .settings import Address, Entry, Fresh, Identity
-from .tables import Association, Child, Selector
+from .tables import Association, Child, Keys, Selector
 
 # No message has more than 3000 octets, and no more than 128 IKE SAs are held beside those that the peer closed.
 MESSAGE_ROOM = 3000
@@ -25,8 +25,8 @@ class Gateway:
     """One end, with one peer.
 
     `own` and `peer` are identities: a name, an address of mail, an IP address, or an `Identity`. `psk` is the secret of both ends, unless
-    `peer_psk` is another one for the peer. Raises `CallFault` with 104 (an identity, the window or the blocks), 106 (the policy) or
-    107 (the first SPI).
+    `peer_psk` is another one for the peer. Only one with `tells_keys` answers `keys`. Raises `CallFault` with 104 (an identity, the window
+    or the blocks), 106 (the policy) or 107 (the first SPI).
     """
 
     def __init__(
@@ -44,6 +44,7 @@ class Gateway:
         own_address: str = "192.0.2.1",
         peer_address: str = "192.0.2.2",
         cookie_secret: Optional[bytes] = None,
+        tells_keys: bool = False,
     ) -> None:
         self._handle = _library.GatewayHandle()
         self._peer_address = IPv4Address(peer_address).packed
@@ -51,7 +52,8 @@ class Gateway:
         for value, limit in ((own_identity.kind, 2**8), (peer_identity.kind, 2**8), (window, 2**8), (blocks, 2**32), (first_spi, 2**32)):
             _library.in_range(value, limit)
         terms = _library.TermsRecord(
-            own_kind=own_identity.kind, peer_kind=peer_identity.kind, extended=extended, window=window, blocks=blocks, first_spi=first_spi)
+            own_kind=own_identity.kind, peer_kind=peer_identity.kind, extended=extended, window=window, blocks=blocks, first_spi=first_spi,
+            tells_keys=tells_keys)
         terms.own_address[:], terms.peer_address[:] = IPv4Address(own_address).packed, self._peer_address
         terms.cookie_secret[:] = cookie_secret if cookie_secret is not None else secrets.token_bytes(32)
         entries = (_library.EntryRecord * len(policy))(*(entry.record() for entry in policy))
@@ -166,8 +168,15 @@ class Gateway:
         check(LIBRARY.suk_associations(byref(self._handle), room, ASSOCIATION_ROOM, byref(count)))
         return [Association.of(record) for record in room[: count.value]]
 
+    def keys(self, ike: int) -> Keys:
+        """The keys of an IKE SA, by its serial: for tests, and to read captured messages. `CallFault` 108 where the gateway wasn't made
+        with `tells_keys`, no such IKE SA is held, or it has no keys yet."""
+        record = _library.KeysRecord()
+        check(LIBRARY.suk_keys(byref(self._handle), ike, byref(record)))
+        return Keys.of(record)
+
     def close(self) -> None:
-        """Frees it; keys and secrets aren't wiped from memory. Any call after that raises 101."""
+        """Overwrites and frees it; secrets that were given to it stay the caller's. Any call after that raises 101."""
         LIBRARY.suk_end(byref(self._handle))
 
     def __enter__(self) -> "Gateway":

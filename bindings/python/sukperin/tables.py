@@ -1,7 +1,7 @@
 """What a gateway holds."""
 
 import enum
-from dataclasses import dataclass
+from dataclasses import dataclass, fields
 from ipaddress import IPv4Address, IPv6Address
 from typing import Tuple
 
@@ -20,9 +20,13 @@ class Selector:
 
     @staticmethod
     def of(record: _library.SelectorRecord) -> "Selector":
-        ends = bytes(record.start), bytes(record.end)
-        start, end = (IPv4Address(octets[:4]) if record.family == 4 else IPv6Address(octets) for octets in ends)
+        start, end = (_address(record.family, bytes(octets)) for octets in (record.start, record.end))
         return Selector(record.protocol, start, end, (record.start_port, record.end_port))
+
+
+# An address of IPv4 is the first four octets.
+def _address(family: int, octets: bytes) -> Address:
+    return IPv4Address(octets[:4]) if family == 4 else IPv6Address(octets)
 
 
 @dataclass(frozen=True)
@@ -57,6 +61,23 @@ class Phase(enum.IntEnum):
     HALF_OPEN = 3
     ESTABLISHED = 4
     CLOSED = 5
+
+
+@dataclass(frozen=True, repr=False)
+class Keys:
+    """The keys of an IKE SA (RFC 7296 section 2.14), each of 32 octets. The initiator is the end that began it. It prints no key."""
+
+    sk_d: bytes
+    sk_ai: bytes
+    sk_ar: bytes
+    sk_ei: bytes
+    sk_er: bytes
+    sk_pi: bytes
+    sk_pr: bytes
+
+    @staticmethod
+    def of(record: _library.KeysRecord) -> "Keys":
+        return Keys(*(bytes(getattr(record, field.name)) for field in fields(Keys)))
 
 
 @dataclass(frozen=True)

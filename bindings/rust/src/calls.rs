@@ -188,6 +188,10 @@ impl GatewayHandle {
     pub fn associations(&mut self, room: &mut [ffi::Association], count: &mut u64) -> u32 {
         unsafe { ffi::suk_associations(&mut self.0, room.as_mut_ptr(), room.len(), count) }
     }
+
+    pub fn keys(&mut self, ike: u32, told: &mut ffi::Keys) -> u32 {
+        unsafe { ffi::suk_keys(&mut self.0, ike, told) }
+    }
 }
 
 /// A handle of one end of an ESP SA, freed when it is dropped.

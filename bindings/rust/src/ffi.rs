@@ -165,6 +165,18 @@ pub struct Association {
 
 #[repr(C)]
 #[derive(Clone, Copy, Default)]
+pub struct Keys {
+    pub sk_d: [u8; 32],
+    pub sk_ai: [u8; 32],
+    pub sk_ar: [u8; 32],
+    pub sk_ei: [u8; 32],
+    pub sk_er: [u8; 32],
+    pub sk_pi: [u8; 32],
+    pub sk_pr: [u8; 32],
+}
+
+#[repr(C)]
+#[derive(Clone, Copy, Default)]
 pub struct Sealed {
     pub number: u64,
     pub length: u64,
@@ -294,6 +306,7 @@ extern "C" {
         room_count: usize,
         count: *mut u64,
     ) -> u32;
+    pub fn suk_keys(gateway: *mut Gateway, ike: u32, told: *mut Keys) -> u32;
     pub fn suk_sender(
         end: *mut End,
         spi: u32,

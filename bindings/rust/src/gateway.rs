@@ -3,14 +3,14 @@
 use crate::calls::GatewayHandle;
 use crate::ffi;
 use crate::{
-    Association, Child, Config, Entry, Error, Fresh, Output, Place, Record, Refusal, Resent,
+    Association, Child, Config, Entry, Error, Fresh, Keys, Output, Place, Record, Refusal, Resent,
 };
 use std::fmt;
 use std::net::Ipv4Addr;
 
 /// A gateway: the machine of IKE and the path of packets with one peer, over one table of SAs and one policy.
 ///
-/// It stays on the thread that made it. When it is dropped its memory is freed, but not wiped.
+/// It stays on the thread that made it. When it is dropped its memory is overwritten and freed.
 pub struct Gateway {
     handle: GatewayHandle,
 }
@@ -20,11 +20,20 @@ impl Gateway {
     ///
     /// [`Error::Configuration`], [`Error::Spi`] and [`Error::Policy`] tell what can't be used, and [`Error::Memory`] that memory ran out.
     pub fn new(config: &Config<'_>, policy: &[Entry]) -> Result<Gateway, Error> {
+        Gateway::made(config, policy, false)
+    }
+
+    /// The same, but it also tells its keys ([`Gateway::keys`]): for tests, and for programs that read captured messages.
+    pub fn telling_keys(config: &Config<'_>, policy: &[Entry]) -> Result<Gateway, Error> {
+        Gateway::made(config, policy, true)
+    }
+
+    fn made(config: &Config<'_>, policy: &[Entry], tells_keys: bool) -> Result<Gateway, Error> {
         let entries: Vec<ffi::Entry> =
             policy.iter().map(Entry::record).collect::<Result<_, _>>()?;
         let mut handle = GatewayHandle::none();
         Error::check(handle.new_gateway(
-            &config.terms(),
+            &config.terms(tells_keys),
             &config.own.identity.octets(),
             &config.peer.identity.octets(),
             config.own.secret,
@@ -204,6 +213,15 @@ impl Gateway {
         let count = usize::try_from(count).map_err(|_| Error::Room)?;
         let records = room.get(..count).ok_or(Error::Room)?;
         Ok(records.iter().map(Association::of).collect())
+    }
+
+    /// The keys of an IKE SA, by its serial: they are secrets.
+    ///
+    /// [`Error::Nothing`] where the gateway wasn't made by [`Gateway::telling_keys`], no such IKE SA is held, or it has no keys yet.
+    pub fn keys(&mut self, ike: u32) -> Result<Keys, Error> {
+        let mut record = ffi::Keys::default();
+        Error::check(self.handle.keys(ike, &mut record))?;
+        Ok(Keys::of(&record))
     }
 
     fn child_after(&mut self, serial: u32) -> Result<Option<ffi::Child>, Error> {

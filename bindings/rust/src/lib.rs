@@ -65,7 +65,7 @@ pub use gateway::Gateway;
 pub use list::{Place, Record};
 pub use output::{Output, Resent};
 pub use settings::{Action, Config, End, Entry, Fresh, Identity, Range};
-pub use tables::{Association, Child, Phase, Role, Selector};
+pub use tables::{Association, Child, Keys, Phase, Role, Selector};
 
 /// The most octets that an ESP packet adds to the packet in it: 8 before it, up to 5 and 16 behind it.
 pub const ESP_OCTETS: usize = 29;

@@ -91,7 +91,7 @@ impl<'a> Config<'a> {
         }
     }
 
-    pub(crate) fn terms(&self) -> ffi::Terms {
+    pub(crate) fn terms(&self, tells_keys: bool) -> ffi::Terms {
         ffi::Terms {
             own_kind: self.own.identity.kind(),
             peer_kind: self.peer.identity.kind(),
@@ -102,7 +102,7 @@ impl<'a> Config<'a> {
             own_address: self.own.address.octets(),
             peer_address: self.peer.address.octets(),
             cookie_secret: self.cookie_secret,
-            tells_keys: 0,
+            tells_keys: u8::from(tells_keys),
             reserved: [0; 3],
         }
     }

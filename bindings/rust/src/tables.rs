@@ -1,7 +1,8 @@
-//! What a gateway holds: its Child SAs, and its IKE SAs.
+//! What a gateway holds: its Child SAs, and its IKE SAs with their keys.
 
 use crate::ffi;
 use crate::Range;
+use std::fmt;
 use std::net::{Ipv4Addr, Ipv6Addr};
 
 /// A Child SA: one inbound and one outbound SA of ESP.
@@ -141,5 +142,45 @@ impl Association {
             spi_responder: record.spi_r,
             moment: record.moment,
         }
+    }
+}
+
+/// The keys of an IKE SA (RFC 7296 section 2.14). Its initiator is the end that began it.
+#[derive(Clone, PartialEq, Eq)]
+pub struct Keys {
+    /// The key from which those of Child SAs are made.
+    pub sk_d: [u8; 32],
+    /// The integrity key of what the initiator sends.
+    pub sk_ai: [u8; 32],
+    /// The integrity key of what the responder sends.
+    pub sk_ar: [u8; 32],
+    /// The encryption key of what the initiator sends.
+    pub sk_ei: [u8; 32],
+    /// The encryption key of what the responder sends.
+    pub sk_er: [u8; 32],
+    /// The key with which the initiator's identity is proved.
+    pub sk_pi: [u8; 32],
+    /// The key with which the responder's identity is proved.
+    pub sk_pr: [u8; 32],
+}
+
+impl Keys {
+    pub(crate) fn of(record: &ffi::Keys) -> Keys {
+        Keys {
+            sk_d: record.sk_d,
+            sk_ai: record.sk_ai,
+            sk_ar: record.sk_ar,
+            sk_ei: record.sk_ei,
+            sk_er: record.sk_er,
+            sk_pi: record.sk_pi,
+            sk_pr: record.sk_pr,
+        }
+    }
+}
+
+// Shows no octet.
+impl fmt::Debug for Keys {
+    fn fmt(&self, f: &mut fmt::Formatter<'_>) -> fmt::Result {
+        f.write_str("Keys { .. }")
     }
 }

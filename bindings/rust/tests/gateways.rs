@@ -39,13 +39,16 @@ fn policy(index: usize) -> [Entry; 2] {
     [Entry::protect(own, peer), Entry::bypass(own, net(9))]
 }
 
-fn open(index: usize) -> Gateway {
-    let config = Config::new(
+fn config(index: usize) -> Config<'static> {
+    Config::new(
         end_of(index, b"secret"),
         end_of(1 - index, b"secret"),
         [7; 32],
-    );
-    Gateway::new(&config, &policy(index)).unwrap()
+    )
+}
+
+fn open(index: usize) -> Gateway {
+    Gateway::new(&config(index), &policy(index)).unwrap()
 }
 
 struct World {
@@ -90,14 +93,18 @@ impl World {
 
     fn up() -> World {
         let mut world = World::new();
-        let request = world.a.start(None, 0, world.chance.fresh()).unwrap();
+        world.greet();
+        world
+    }
+
+    fn greet(&mut self) {
+        let request = self.a.start(None, 0, self.chance.fresh()).unwrap();
         let made = Output::Counted {
             ike: 1,
             child: Some(1),
             closed: None,
         };
-        assert_eq!(world.carry(request), made);
-        world
+        assert_eq!(self.carry(request), made);
     }
 }
 
@@ -321,6 +328,21 @@ fn the_tables_tell_what_was_made() {
         (associations[0].role, associations[0].phase),
         (Role::Responder, Phase::Established)
     );
+}
+
+#[test]
+fn keys_are_told_by_who_was_made_so() {
+    let mut world = World::up();
+    assert_eq!(world.a.keys(1), Err(Error::Nothing));
+    world.a = Gateway::telling_keys(&config(0), &policy(0)).unwrap();
+    world.b = Gateway::telling_keys(&config(1), &policy(1)).unwrap();
+    assert_eq!(world.a.keys(1), Err(Error::Nothing));
+    world.greet();
+    let keys = world.a.keys(1).unwrap();
+    assert_eq!(world.b.keys(1).as_ref(), Ok(&keys));
+    assert_ne!(keys.sk_ei, keys.sk_er);
+    assert_eq!(format!("{keys:?}"), "Keys { .. }");
+    assert_eq!(world.a.keys(2), Err(Error::Nothing));
 }
 
 #[test]
