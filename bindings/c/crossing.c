@@ -3,7 +3,7 @@
  *   cc -O2 crossing.c -lsukperin -o crossing && ./crossing [ROUNDS]
  *
  * It prints how long a refused call takes, how many times as fast a list of 64 packets is as so many single calls (the median of the
- * rounds, 200 if none are named), and how often each takes memory. The status is 1 where a refused call takes 10 ns, where a list is
+ * rounds, 200 if none are named), how many nanoseconds a packet of a list takes at least, and how often each takes memory. The status is 1 where a refused call takes 10 ns, where a list is
  * slower, or where ESP packets that come take memory. Times are of the processor; glibc's allocator is asked behind the one here. */
 #include "tests.h"
 #include <time.h>
@@ -126,6 +126,7 @@ static void open_list(host *b) {
 /* Prints a row, and tells whether lists aren't slower. */
 static bool lists_gain(host *a, host *b, size_t length, size_t rounds) {
     static double out[MOST_ROUNDS], in[MOST_ROUNDS];
+    double least_out = 1e12, least_in = 1e12;
     lay_packets(length);
     memset(taken, 0, sizeof taken);
     for (size_t round = 0; round < rounds; round++) {
@@ -135,10 +136,13 @@ static bool lists_gain(host *a, host *b, size_t length, size_t rounds) {
         open_list(b);
         out[round] = times[OUT_SINGLE] / times[OUT_LIST];
         in[round] = times[IN_SINGLE] / times[IN_LIST];
+        least_out = times[OUT_LIST] < least_out ? times[OUT_LIST] : least_out;
+        least_in = times[IN_LIST] < least_in ? times[IN_LIST] : least_in;
     }
     double gained_out = median(out, rounds), gained_in = median(in, rounds), all = (double)rounds * PACKETS;
-    printf("| %zu | %.2f | %.2f | %.2f | %.2f | %.2f | %.2f |\n", length, gained_out, gained_in, (double)taken[OUT_SINGLE] / all,
-           (double)taken[OUT_LIST] / all, (double)taken[IN_SINGLE] / all, (double)taken[IN_LIST] / all);
+    printf("| %zu | %.2f | %.2f | %.0f | %.0f | %.2f | %.2f | %.2f | %.2f |\n", length, gained_out, gained_in, least_out / PACKETS,
+           least_in / PACKETS, (double)taken[OUT_SINGLE] / all, (double)taken[OUT_LIST] / all, (double)taken[IN_SINGLE] / all,
+           (double)taken[IN_LIST] / all);
     EXPECT(taken[IN_SINGLE], 0);
     EXPECT(taken[IN_LIST], 0);
     return gained_out > 1 && gained_in > 1;
@@ -153,8 +157,9 @@ int main(int count, char **words) {
     double crossing = refused_call();
     printf("a refused call takes %.1f ns\n", crossing);
     EXPECT(crossing < 10, true);
-    puts("| Octets | Gain of a list: outward | that came | Allocations a packet: outward | in a list | that came | in a list |");
-    puts("|---|---|---|---|---|---|---|");
+    puts("| Octets | Gain of a list: outward | that came | Its ns a packet: outward | that came | Allocations a packet: outward | in a list "
+         "| that came | in a list |");
+    puts("|---|---|---|---|---|---|---|---|---|");
     for (size_t i = 0; i < 3; i++) EXPECT(lists_gain(&a, &b, lengths[i], rounds), true);
     close_both(&a, &b);
     printf("%u passed, %u failed\n", passed, failed);
