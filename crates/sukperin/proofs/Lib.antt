@@ -2,3 +2,5 @@ pub mod AsBox
 pub mod AssociationLemmas
 pub mod HeldLemmas
 pub mod ListLemmas
+pub mod OutwardLemmas
+pub mod SealLemmas

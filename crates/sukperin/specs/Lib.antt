@@ -3,6 +3,8 @@ pub mod Codes
 pub mod Flags
 pub mod Held
 pub mod Inputs
+pub mod Lists
 pub mod Meaning
 pub mod Outputs
+pub mod Outward
 pub mod Terms
