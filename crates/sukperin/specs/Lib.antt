@@ -4,7 +4,9 @@ pub mod Flags
 pub mod Held
 pub mod Inputs
 pub mod Keys
+pub mod Lists
 pub mod Meaning
 pub mod Outputs
+pub mod Outward
 pub mod Terms
 pub mod Views

@@ -1,13 +1,14 @@
 //! A gateway behind a handle.
-ghost use Rattle.std.specs.Prelude.{◌≡◌, MatchOption};
+ghost use Rattle.std.specs.Prelude.{◌≡◌, MatchOption, length};
 ghost use Rattle.gateway.specs.Inputs.{input_view};
 ghost use Rattle.gateway.specs.Outputs.{output_view};
 ghost use Rattle.sukperin.specs.Outputs.{left_of};
 ghost use Rattle.sukperin.specs.Inputs.{TakesInput};
+ghost use Rattle.sukperin.specs.Outward.{HasRoom, TakesOutward};
 ghost use Rattle.sukperin.specs.Views.{closing_in, message_at};
 
 use crate::output::SukOutput;
-use crate::room::write_front;
+use crate::room::write_sealed;
 use base::Items;
 use caller_peer::PeerCaller;
 use gateway::{Gateway, Input, Output, Resent};
@@ -107,14 +108,13 @@ impl Hosted {
         packet: &[u8],
         room: &mut [u8],
         out: &mut SukOutput,
-    ) {
+    )
+        requires { HasRoom packet.now (length room.old) }
+        ensures { TakesOutward packet.now room.old self.old self.new out.new room.new }
+    {
         let traced = self.gateway.traced_step(alloc, &Input::Outward { packet });
+        write_sealed(&traced.output, room);
         *out = SukOutput::of(&traced.output, &traced.trace);
-        if let Output::Sealed { octets, .. } = &traced.output {
-            if octets.len() <= room.len() {
-                write_front(room, octets.as_slice());
-            }
-        }
         self.left = Left::Nothing;
     }
 }

@@ -1,10 +1,13 @@
 //! Inputs of a gateway.
 ghost use Rattle.std.specs.Prelude.{◌≡◌, Some};
-ghost use Rattle.gateway.specs.Inputs.{Ike, Esp, Inward, Start, Probe, DeleteChild, DeleteIke, Secret, Tick, input_view};
+ghost use Rattle.gateway.specs.Inputs.{Ike, Esp, Inward, Start, Probe, DeleteChild, DeleteIke, Secret};
+ghost use Rattle.gateway.specs.Inputs.{Tick, input_view};
 ghost use Rattle.sukperin.specs.Inputs.{Takes, fresh_spelled, serial_named};
+ghost use Rattle.sukperin.specs.Outward.{SendsBy, SendsIf};
 
 use crate::end::End;
 use crate::handle::SukHandle;
+use crate::hosted::Hosted;
 use crate::output::SukOutput;
 use crate::refusal::Refusal;
 use gateway::{Fresh, Input};
@@ -208,7 +211,10 @@ pub extern "C" fn suk_outward(
     packet: &[u8],
     room: &mut [u8],
     out: &mut SukOutput,
-) -> u32 {
+) -> u32
+    ensures { SendsIf packet.now room.old handle.old.held.state result handle.new.held.state out.old
+        out.new room.new }
+{
     let Some(mut boxed) = handle.take(alloc) else {
         return Refusal::NoEnd.code();
     };
@@ -250,18 +256,28 @@ fn give_end(alloc: Global, end: &mut End, input: &Input<'_>, out: &mut SukOutput
     0
 }
 
-// Gives an end a packet on its way out, if it is a gateway and there is room.
-fn outward(
-    alloc: Global,
-    end: &mut End,
-    packet: &[u8],
-    room: &mut [u8],
-    out: &mut SukOutput,
-) -> u32 {
+// Gives an end a packet on its way out, if it is a gateway.
+fn outward(alloc: Global, end: &mut End, packet: &[u8], room: &mut [u8], out: &mut SukOutput) -> u32
+    ensures { SendsIf packet.now room.old (Some end.old) result (Some end.new) out.old out.new room.new }
+{
     let End::Gateway(hosted) = end else {
         return Refusal::NoEnd.code();
     };
-    if room.len() < packet.len() + PACKET_MORE {
+    send(alloc, hosted, packet, room, out)
+}
+
+// Gives a gateway a packet on its way out, if there is room for what it may become.
+fn send(
+    alloc: Global,
+    hosted: &mut Hosted,
+    packet: &[u8],
+    room: &mut [u8],
+    out: &mut SukOutput,
+) -> u32
+    ensures { SendsBy packet.now room.old hosted.old result hosted.new out.old out.new room.new }
+{
+    let short = room.len() < packet.len() + PACKET_MORE;
+    if short {
         return Refusal::ShortRoom.code();
     }
     hosted.take_outward(alloc, packet, room, out);

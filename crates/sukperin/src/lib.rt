@@ -29,9 +29,17 @@
 //!   sender, room nor what is told.
 //! - `suk_open` judges a packet as [`esp::Inbound::open`] does, and tells the payload as a place in the
 //!   packet. Refused, it changes nothing, but that bad padding (19) leaves the packet's number taken.
-//! - Each input but `suk_outward` takes one step of the gateway ([`gateway::Gateway::traced_step`]) with
-//!   the input that its arguments spell; the record tells the step's output and trace, and what is left to
-//!   be taken are that output's messages.
+//! - Each input takes one step of the gateway ([`gateway::Gateway::traced_step`]) with the input that its
+//!   arguments spell; the record tells the step's output and trace, and what is left to be taken are that
+//!   output's messages.
+//! - `suk_outward` puts the ESP packet of that step at the beginning of the room, and leaves what stood
+//!   behind it. Where the packet doesn't go out protected it leaves the whole room, and where the room is
+//!   shorter than the packet and 29 octets the gateway too. A sealed packet is never longer than that.
+//! - `suk_esp_all` takes as many steps as there are places in the buffer, in their order, each with the
+//!   packet at its place; each record tells its step. A packet that is refused alone leaves the gateway.
+//! - `suk_outward_all` does so with packets on their way out. Their ESP packets are the octets at the
+//!   beginning of the room, one behind the other; each record says where its own begins. What stood behind
+//!   them stands there still. One that is refused alone leaves the gateway, also where memory is short.
 //! - Views leave what the handle leads to as it was, and tell what it holds: the next moment, messages that
 //!   are left, IKE SAs that were closed, Child SAs with their selectors, and all IKE SAs. Where they find
 //!   nothing they tell nothing.
@@ -39,8 +47,7 @@
 //! - Every call returns, whatever the octets and the codes, and each end that is made is freed at most
 //!   once.
 //!
-//! Not proved, beyond that they return and touch nothing else: what `suk_outward` does, and that the lists
-//! (`suk_esp_all`, `suk_outward_all`) are as so many single calls.
+//! Not proved: that a packet of a list is refused for want of memory (20) only where memory is short.
 //!
 //! # What is trusted to C
 //! - A handle begins as all zeros and is changed by these calls alone. It has one owner: it may be moved,
@@ -53,7 +60,7 @@
 //!   that is refused.
 //! - Who counts on numbers that never repeat gives a new sender the last number that the key was used with.
 //!
-//! What is freed isn't overwritten first, so keys and secrets may stand in memory that was given back.
+//! This code doesn't overwrite what it frees. `tools/library.sh` links it with `bindings/c/wipe.c`, which does.
 #![tactic(auto)]
 
 mod end;
