@@ -242,6 +242,11 @@ impl Peer {
         self.backoff.clear();
         let mut association = Association::new(self.now, name);
         association.delete_at = self.leaving_until.map(|_| self.now);
+        // Begun before a new configuration, in a gateway that carries no more: away with
+        // it, by which the peer learns that it has to begin anew.
+        if self.gateways.is_outlived(name.gateway) {
+            association.end_at(self.now);
+        }
         // Its end is no failure of ours, and its lasting no success.
         association.settled = true;
         self.associations.push(association);

@@ -1,14 +1,17 @@
 #!/bin/sh
 # The host's tests with the core, one after the other: unit, systemd, namespaces, flood, soak, real_peer and speed, or those that are named. It
-# takes half an hour, and installs what is missing by apt-get. As root: sh host/tests/all.sh [PROGRAM [NAME ..]], of a program built with cargo's
+# takes some 20 minutes, and installs what is missing by apt-get. As root: sh host/tests/all.sh [PROGRAM [NAME ..]], of a program built with cargo's
 # feature `library`, by --release. It ends with how many passed, failed and were skipped.
 cd "$(dirname "$0")" || exit 2
 program=$(realpath "${1:-${CARGO_TARGET_DIR:-../target}/release/sukperind}")
 [ $# -gt 0 ] && shift
 [ $# -gt 0 ] || set -- unit systemd namespaces flood soak real_peer speed
 passed=0 failed=0 skipped=0
-told=$(mktemp) || exit 2
-trap 'rm -f "$told"' EXIT
+folder=$(mktemp -d) || exit 2
+trap 'rm -rf "$folder"' EXIT
+told=$folder/told
+# Both scripts with a guest take the kernel of one download.
+export SUKPERIN_GUEST="${SUKPERIN_GUEST:-$folder/guest}"
 trap 'exit 1' INT TERM
 for name; do
     echo "== $name"

@@ -19,10 +19,10 @@ struct Two {
 }
 
 impl Two {
-    /// Both have a Child SA with serial 1.
-    fn up() -> Two {
+    /// Both have a Child SA with serial 1, and a replay window of so many blocks.
+    fn up(blocks: u32) -> Two {
         let open = |end: usize| {
-            let config = config(end, "");
+            let config = config(end, &format!("blocks = {blocks}"));
             let terms = Terms {
                 local: config.local,
                 peer: &config.peers[0],
@@ -91,7 +91,8 @@ fn packets(count: usize) -> List {
 
 #[test]
 fn lists_go_through() {
-    let mut two = Two::up();
+    // So many blocks that the window holds all numbers.
+    let mut two = Two::up(16);
     let (mut room, mut passed) = (Vec::new(), Vec::new());
     let mut numbers = 0;
     // Shorter and longer than the one before, and none.
@@ -137,8 +138,37 @@ fn lists_go_through() {
 }
 
 #[test]
+fn replays_behind_the_window_are_refused() {
+    let mut two = Two::up(2);
+    let out = packets(200);
+    let (mut room, mut passed) = (Vec::new(), Vec::new());
+    two.ends[0].outward(&out.octets, &out.places, &mut room, &mut passed);
+    let (mut sealed, mut last) = (List::default(), 0);
+    for passage in &passed {
+        if let Passage::Sealed { number, place, .. } = passage {
+            sealed.add(&room[place.clone()]);
+            last = *number;
+        }
+    }
+    for again in [false, true] {
+        passed.clear();
+        two.ends[1].esp(&sealed.octets, &sealed.places, &mut passed);
+        for (number, passage) in (1..=last).zip(&passed) {
+            match passage {
+                Passage::Up { number: told, .. } if !again => assert_eq!(*told, number),
+                Passage::Refused { code: 16 } if again => assert!(number + 128 > last),
+                // Of 64 bits, the number is then taken for the next 2^32 (RFC 4303 appendix A2.2).
+                Passage::Refused { code: 18 } if again => assert!(number + 64 <= last),
+                other => panic!("{other:?}"),
+            }
+        }
+        assert_eq!(passed.len() as u64, last);
+    }
+}
+
+#[test]
 fn one_packet_of_a_list_is_refused_alone() {
-    let mut two = Two::up();
+    let mut two = Two::up(2);
     let out = packets(3);
     let (mut room, mut passed) = (Vec::new(), Vec::new());
     two.ends[0].outward(&out.octets, &out.places, &mut room, &mut passed);

@@ -95,3 +95,11 @@ expect "TCP of one stream" at_least "TCP, 1 stream" 3
 expect "TCP of four streams" at_least "TCP, 4 streams" 3
 expect "UDP of 64 octets" at_least "UDP, 64 octets" 1.7
 expect "UDP of 1372 octets, packets of 1400" at_least "UDP, 1372 octets" 1.7
+# A superpacket takes one place of the interface's queue, so a stream loses no more there than it does on the wire.
+sent_again() { # WHAT
+    again=$(sed -n "s/^$1: .*; retransmissions bare \([0-9]*\), sukperind \([0-9]*\), .*/\1 \2/p" "$folder/ratios")
+    figure="${again#* }, and ${again% *} of the bare pair"
+    [ -n "$again" ] && [ "${again#* }" -le "${again% *}" ]
+}
+expect "TCP of one stream: no more retransmissions than the bare pair" sent_again "TCP, 1 stream"
+expect "TCP of four streams: no more retransmissions than the bare pair" sent_again "TCP, 4 streams"

@@ -1,7 +1,7 @@
 #!/bin/sh
 # The daemon's unit under a real systemd, in a small guest of qemu (tests/guest.sh), with a peer here: start with READY, status, reload, watchdog,
 # stop with a deletion at the peer, a restart of what hangs. As root: sh host/tests/systemd.sh [PROGRAM], of a program built with cargo's feature
-# `library`. It installs what is missing by apt-get. SUKPERIN_GUEST names a folder in which the guest's kernel is kept. It takes about 5 minutes.
+# `library`. It installs what is missing by apt-get. SUKPERIN_GUEST names a folder in which the guest's kernel is kept. It takes about 3 minutes.
 cd "$(dirname "$0")" || exit 2
 . ./common.sh
 need "${1:-${CARGO_TARGET_DIR:-../target}/debug/sukperind}" ip ping
@@ -97,10 +97,12 @@ status_told() {
     grep -q '^peer other (192.0.2.1): up for .*, 1 of 1 entries carried' "$folder/status"
 }
 expect "the status command tells it" status_told
-limited() { # It runs as the unit says: no more rights than two, no new ones, a filter of system calls.
+# It runs as the unit says, with no new rights and a filter of system calls. Of the unit's three rights it keeps two: that to ports stays in the
+# bounding set, out of which only CAP_SETPCAP could take it.
+limited() {
     main=$(property MainPID)
-    figure=$(inside "grep -E '^(CapBnd|NoNewPrivs|Seccomp):' /proc/$main/status" | tr -s '\t\n' ' ')
-    [ "$figure" = "CapBnd: 0000000000003000 NoNewPrivs: 1 Seccomp: 2 " ]
+    figure=$(inside "grep -E '^(CapPrm|CapEff|CapBnd|NoNewPrivs|Seccomp):' /proc/$main/status" | tr -s '\t\n' ' ')
+    [ "$figure" = "CapPrm: 0000000000003000 CapEff: 0000000000003000 CapBnd: 0000000000003400 NoNewPrivs: 1 Seccomp: 2 " ]
 }
 expect "its rights are limited" limited
 
@@ -141,16 +143,20 @@ restarted() { [ "$(property NRestarts)" = 1 ] && is_active && [ "$(property Main
 expect "one that hangs is restarted by the watchdog" hangs
 expect "both ends are up again after that" within 60 reaches
 
-# The peer's daemon is asked each 0.1 s whether its Child SAs went.
+# What hung told the peer nothing: its old Child SA stays there until a probe, 4.5 s later, has had no answer for 47 s.
+one_child() { [ "$(children $end | wc -l)" = 1 ]; }
+expect "the peer gives up the Child SA of the one that hung" within 90 one_child
+
+# The peer's daemon is asked each 0.1 s whether its Child SAs went. Untold it would keep them for 51 s; an emulated guest takes seconds to obey.
 deleted() { json $end | grep -q '"carried":0' && [ -z "$(children $end)" ]; }
 stopped() {
     inside systemctl stop sukperind &
     stopping=$!
-    within 3 deleted
+    within 10 deleted
     held=$? took=$figure
     wait $stopping
     figure="$took; $(property Result), $(property ActiveState)"
     [ $held = 0 ] && [ "$(property Result) $(property ActiveState)" = "success inactive" ]
 }
-expect "systemctl stop: deleted at the peer within 3 s" stopped
+expect "systemctl stop: deleted at the peer within 10 s" stopped
 expect "the journal has its lines" grep -q 'sukperind\[' "$folder/journal"

@@ -805,6 +805,33 @@ fn a_new_configuration_of_one_that_waits_deletes_the_old_association() {
 }
 
 #[test]
+fn an_association_that_the_peer_began_before_a_new_configuration_is_deleted() {
+    let mut care = Care::new(settings(Role::Waits, 1));
+    care.orders(0);
+    let (own, anew) = (settings(Role::Waits, 1), true);
+    let event = Event::Configured {
+        settings: own,
+        anew,
+    };
+    let gateway = 1;
+    let expected = [Order::OpenGateway { gateway }, Order::CarryBy { gateway }];
+    assert_eq!(care.tell(1_000, event), expected);
+    // Its first request came before, to the gateway of the old configuration.
+    let orders = care.admitted(1_020, 1, 0);
+    let association = name(1);
+    assert!(
+        orders.contains(&Order::DeleteIke { association }),
+        "{orders:?}"
+    );
+    // What comes to the new gateway stays.
+    let association = AssociationName { gateway, ike: 1 };
+    let child = Some(care.new_child(0));
+    let orders = care.tell(1_040, Event::Admitted { association, child });
+    let ends = |order: &Order| matches!(order, Order::DeleteIke { .. });
+    assert!(!orders.iter().any(ends), "{orders:?}");
+}
+
+#[test]
 fn a_new_configuration_gives_up_the_start_under_way() {
     let mut care = Care::new(settings(Role::Begins, 1));
     care.orders(0);

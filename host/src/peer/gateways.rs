@@ -38,6 +38,11 @@ impl Gateways {
         self.carrier != Some(self.newest())
     }
 
+    /// Whether a newer gateway carries packets in place of this one.
+    pub(super) fn is_outlived(&self, number: u32) -> bool {
+        self.carrier.is_some_and(|carrier| number < carrier)
+    }
+
     /// Opens the next gateway.
     pub(super) fn open(&mut self, now: u64, settings: &Settings, orders: &mut VecDeque<Order>) {
         let number = self.opened;
