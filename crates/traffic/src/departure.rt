@@ -43,9 +43,9 @@ pub enum Departure<'a> {
 const OVERHEAD_LIMIT: usize = 29;
 
 /// Sends a packet by the policy's decision about its flow: sealed by the SA pair that carries the flow, in
-/// the clear, or not at all. What is to be protected never goes in the clear. A gateway calls
-/// [`send_remembering`], which is this with a memory of flows; this plain form stays as what that one is
-/// measured and tested against.
+/// the clear, or not at all. What is to be protected never goes in the clear. A gateway calls [`lay`], which
+/// goes the same way with a memory of flows, and computes the ICV later. This plain form stays as what that
+/// one and [`send_remembering`] are measured and tested against.
 ///
 /// Dropped, in this order and with nothing changed: the refusals of [`inner`] (E21, E22, E39); for a flow
 /// that is to be protected [`PacketFault::UnknownAssociation`] (E28) where no Live pair carries it, and
