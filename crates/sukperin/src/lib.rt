@@ -47,7 +47,7 @@
 //! - Every call returns, whatever the octets and the codes, and each end that is made is freed at most
 //!   once.
 //!
-//! Not proved: that a packet of a list is refused for want of memory (20) only where memory is short.
+//! Not proved, of any call: that it says 20, or a record of a list does, only where memory is short.
 //!
 //! # What is trusted to C
 //! - A handle begins as all zeros and is changed by these calls alone. It has one owner: it may be moved,
