@@ -2,7 +2,7 @@
 
 use std::fs;
 use std::os::unix::fs::PermissionsExt;
-use std::path::Path;
+use std::path::{Path, PathBuf};
 use std::process::{Command, Output};
 
 fn check(file: &Path) -> Output {
@@ -10,19 +10,26 @@ fn check(file: &Path) -> Output {
     command.arg("check").arg(file).output().unwrap()
 }
 
-#[test]
-fn the_examples_are_good_and_a_fault_is_told() {
-    let folder = std::env::temp_dir().join(format!("sukperind-check-{}", std::process::id()));
+/// A new folder with a secret beside the configurations to come.
+fn folder_with_secret(name: &str) -> PathBuf {
+    let folder = std::env::temp_dir().join(format!("sukperind-{name}-{}", std::process::id()));
     fs::create_dir_all(&folder).unwrap();
     let secret = folder.join("link.secret");
     fs::write(&secret, "some secret").unwrap();
     fs::set_permissions(&secret, fs::Permissions::from_mode(0o600)).unwrap();
+    folder
+}
+
+#[test]
+fn the_examples_are_good_and_a_fault_is_told() {
+    let folder = folder_with_secret("examples");
     for name in ["left.toml", "right.toml"] {
         let text = Path::new(env!("CARGO_MANIFEST_DIR")).join("etc").join(name);
         fs::copy(text, folder.join(name)).unwrap();
         let output = check(&folder.join(name));
         assert!(output.status.success(), "{output:?}");
     }
+    let secret = folder.join("link.secret");
     fs::set_permissions(&secret, fs::Permissions::from_mode(0o644)).unwrap();
     let output = check(&folder.join("left.toml"));
     assert_eq!(output.status.code(), Some(1));
@@ -31,6 +38,21 @@ fn the_examples_are_good_and_a_fault_is_told() {
         message.contains("left.toml:17: peers[0].secret_file: expected"),
         "{message}"
     );
+    fs::remove_dir_all(&folder).unwrap();
+}
+
+/// The configuration that docs/OPERATING.md prints, for who copies it from there.
+#[test]
+fn the_pages_configuration_is_good() {
+    let folder = folder_with_secret("page");
+    let page = Path::new(env!("CARGO_MANIFEST_DIR")).join("../docs/OPERATING.md");
+    let page = fs::read_to_string(page).unwrap();
+    let (_, rest) = page.split_once("```toml\n").unwrap();
+    let (text, _) = rest.split_once("```").unwrap();
+    let file = folder.join("page.toml");
+    fs::write(&file, text).unwrap();
+    let output = check(&file);
+    assert!(output.status.success(), "{output:?}");
     fs::remove_dir_all(&folder).unwrap();
 }
 
