@@ -1,0 +1,10 @@
+mod EndingLemmas
+mod TellingLemmas
+mod TickLemmas
+mod StepLemmas
+mod PacketLemmas
+mod CarryingLemmas
+mod StrangerLemmas
+mod KeylessLemmas
+mod InsideLemmas
+mod InsideRunLemmas

@@ -1,0 +1,234 @@
+-- Who has no keys changes nothing.
+use Rattle.std.proofs.Common.{◌≡◌, ◌≢◌, ◌⊎◌, ℕ, Bool, true, false, List, Option, Some, None, Result, Ok, Err, refl, ap, subst, sym, ◌∙◌, inl, inr}
+use Rattle.std.specs.List.{position, slice_get}
+use Rattle.base.specs.Octets.{Octets}
+use Rattle.wire.specs.Messages.{Spells}
+use Rattle.wire.specs.declared.message.Message.{Message}
+use Rattle.exchange.specs.declared.sealed.Plain.{Plain}
+use Rattle.suite.specs.declared.fresh.Fresh.{Fresh}
+use Rattle.policy.specs.declared.entry.Entry.{Entry}
+use Rattle.esp.specs.Packet.{PassesIntegrity}
+use Rattle.esp.specs.declared.fault.EspFault.{EspFault}
+use Rattle.esp.specs.declared.fault.EspFault.TheVariants as esp
+use Rattle.sadb.specs.Database.{pair_at, Database, RefusesAt}
+use Rattle.sadb.specs.declared.pair.Pair.{Pair}
+use Rattle.requests.specs.Outgoing.{none_issued}
+use Rattle.sa_init.specs.Cookies.{CookieSecrets}
+use Rattle.sa_init.specs.Judging.{Accepted, Answered, Full, Incomplete, JudgementView}
+use Rattle.association.specs.Finding.{place_meant}
+use Rattle.association.specs.Receiving.{IsAnswering, IsEffective, IsReceived, Opening, Reception, Refused, Repeat, TakesEffect, Answers, AnswersInitial}
+use Rattle.association.specs.declared.fault.MessageFault.{MessageFault}
+use Rattle.association.specs.declared.phase.Association.{Association}
+use Rattle.initial.specs.Answering.{IsHalfOpen}
+use Rattle.setup.specs.Configs.{Setup}
+use Rattle.effects.specs.Taking.{Does, Meaning}
+use Rattle.effects.specs.declared.taking.Effect.{Effect}
+use Rattle.effects.specs.declared.taking.Effect.TheVariants as effect
+use Rattle.ike.specs.LawsOfSteps.{WhatIsQuietChangesNothing}
+use Rattle.ike.specs.Machines.{setup_at, Held, Machine}
+use Rattle.ike.specs.Outputs.{passed_over, stepped_of, IsQuiet}
+use Rattle.ike.specs.Receiving.{is_answered, is_initial_request, is_sound_initial, with_next, DoesJudgement, IsInitialRequest, PassesOver, TakesDatagram, TakesFound, TakesRead, TakesRequestAt, TakesSound}
+use Rattle.ike.specs.Steps as ike
+use Rattle.ike.specs.declared.fault.IkeFault.{IkeFault}
+use Rattle.ike.specs.declared.output.Stepped.{Stepped}
+use Rattle.traffic.specs.Outcomes.{Outcome, Up, Dummy, Sealed, Clear, Discarded, Dropped}
+use Rattle.traffic.specs.Receiving.{IsUnopened, Receives}
+use Rattle.traffic.specs.declared.fault.PacketFault.{PacketFault}
+use Rattle.traffic.specs.declared.fault.PacketFault.TheVariants.{UnknownAssociation, Esp, Inner, OutsideSelectors}
+use Rattle.laws_authenticated.specs.Strangers.{IsStrangeDatagram, PassesACheck}
+
+-- what is known of what a message is to an IKE SA, and of a step that says nothing
+pub record StrangerFacts : Type 0 where
+  pub effective : (plain_of : Opening) (a : Association) (octets : Octets) (m : Message) (plain : Plain) → IsReceived plain_of a octets m (TakesEffect plain) → IsEffective plain_of a octets m plain
+  pub answering : (plain_of : Opening) (a : Association) (octets : Octets) (m : Message) (plain : Plain) → IsReceived plain_of a octets m (Answers plain) → IsAnswering plain_of a octets m plain
+  pub quiet : WhatIsQuietChangesNothing
+
+-- what a step says, by what it is
+quiet_as : (s t : Stepped) → s ≡ t → IsQuiet t.output → IsQuiet s.output
+quiet_as s t same is = subst (λ (x : Stepped). IsQuiet x.output) (sym same) is
+
+passed_quiet : (why : IkeFault) (old : Held) (stepped : Stepped) (new : Held) → PassesOver why old stepped new → IsQuiet stepped.output
+passed_quiet why old stepped new is = quiet_as stepped (passed_over why) is.said tt
+
+-- ---- a strange datagram is dropped, or its answer is sent again
+
+refused_quiet : (ike number : ℕ) (meaning : Meaning) (setup : Setup) (old : Association) (table : Database) (octets : Octets) (m : Message) (fault : MessageFault) (e : Effect) (new : Association) (new_table : Database)
+    → Does meaning setup old table octets m (Refused fault) e new new_table → IsQuiet (stepped_of ike number e).output
+refused_quiet ike number meaning setup old table octets m fault (effect.Refused said) new new_table is = tt
+refused_quiet ike number meaning setup old table octets m fault (effect.Repeated said) new new_table is = tt
+refused_quiet ike number meaning setup old table octets m fault (effect.Replied answered) new new_table is = absurd is
+refused_quiet ike number meaning setup old table octets m fault (effect.Again next) new new_table is = absurd is
+refused_quiet ike number meaning setup old table octets m fault (effect.AsksAuth next) new new_table is = absurd is
+refused_quiet ike number meaning setup old table octets m fault (effect.Counted ended) new new_table is = absurd is
+
+repeated_quiet : (ike number : ℕ) (meaning : Meaning) (setup : Setup) (old : Association) (table : Database) (octets : Octets) (m : Message) (reply : Octets) (e : Effect) (new : Association) (new_table : Database)
+    → Does meaning setup old table octets m (Repeat reply) e new new_table → IsQuiet (stepped_of ike number e).output
+repeated_quiet ike number meaning setup old table octets m reply (effect.Refused said) new new_table is = tt
+repeated_quiet ike number meaning setup old table octets m reply (effect.Repeated said) new new_table is = tt
+repeated_quiet ike number meaning setup old table octets m reply (effect.Replied answered) new new_table is = absurd is
+repeated_quiet ike number meaning setup old table octets m reply (effect.Again next) new new_table is = absurd is
+repeated_quiet ike number meaning setup old table octets m reply (effect.AsksAuth next) new new_table is = absurd is
+repeated_quiet ike number meaning setup old table octets m reply (effect.Counted ended) new new_table is = absurd is
+
+module _ (facts : StrangerFacts) (meaning : Meaning) (setup : Setup) (octets : Octets) (old : Held) (strange : IsStrangeDatagram meaning old octets) where
+  received_quiet : (m : Message) → Spells m octets → (place : ℕ) → place_meant m.header old.associations ≡ Ok place → (a : Association) → slice_get old.associations place ≡ Some a
+      → (table : Database) (r : Reception) (e : Effect) (new : Association) (new_table : Database) → IsReceived meaning.plain_of a octets m r → Does meaning setup a table octets m r e new new_table
+      → IsQuiet (stepped_of a.serial m.header.id e).output
+  received_quiet m spelled place meant a there table (Refused fault) e new new_table received does = refused_quiet a.serial m.header.id meaning setup a table octets m fault e new new_table does
+  received_quiet m spelled place meant a there table (Repeat reply) e new new_table received does = repeated_quiet a.serial m.header.id meaning setup a table octets m reply e new new_table does
+  received_quiet m spelled place meant a there table (TakesEffect plain) e new new_table received does =
+      absurd (strange.sealed (record {
+        message = m;
+        spelled = spelled;
+        place = place;
+        association = a;
+        there = there;
+        plain = plain;
+        opened = (facts.effective meaning.plain_of a octets m plain received).opened;
+      }))
+  received_quiet m spelled place meant a there table (Answers plain) e new new_table received does =
+      absurd (strange.sealed (record {
+        message = m;
+        spelled = spelled;
+        place = place;
+        association = a;
+        there = there;
+        plain = plain;
+        opened = (facts.answering meaning.plain_of a octets m plain received).opened;
+      }))
+  received_quiet m spelled place meant a there table AnswersInitial e new new_table received does =
+      absurd (strange.answer (record {
+        message = m;
+        spelled = spelled;
+        place = place;
+        meant = meant;
+        association = a;
+        there = there;
+        waits = record { sent = does.0.read.sent; is = does.0.read.was };
+      }))
+
+  found_quiet : (m : Message) → Spells m octets → (found : Result ℕ MessageFault) → place_meant m.header old.associations ≡ found
+      → (table : Database) (stepped : Stepped) (new : Held) (new_table : Database) → TakesFound found meaning setup octets m old table stepped new new_table → IsQuiet stepped.output
+  found_quiet m spelled (Ok place) meant table stepped new new_table is =
+      quiet_as stepped _ is.said (received_quiet m spelled place meant is.association is.there table is.takes.reception is.effect is.changed new_table is.takes.received is.takes.done)
+  found_quiet m spelled (Err fault) meant table stepped new new_table is = passed_quiet _ old stepped new is.0
+
+  sound_quiet : (m : Message) → Spells m octets → is_initial_request m.header ≡ true → (b : Bool) → is_sound_initial m.header ≡ b
+      → (cookies : CookieSecrets) (from : Octets) (stepped : Stepped) (new : Held) → TakesSound b meaning setup cookies from octets m old stepped new → IsQuiet stepped.output
+  sound_quiet m spelled initial true sound cookies from stepped new is = absurd (strange.first (record { message = m; spelled = spelled; initial = initial; sound = sound }))
+  sound_quiet m spelled initial false sound cookies from stepped new is = passed_quiet _ old stepped new is
+
+  read_quiet : (m : Message) → Spells m octets → (b : Bool) → is_initial_request m.header ≡ b
+      → (cookies : CookieSecrets) (from : Octets) (table : Database) (stepped : Stepped) (new : Held) (new_table : Database)
+      → TakesRead b meaning setup cookies from octets m old table stepped new new_table → IsQuiet stepped.output
+  read_quiet m spelled true initial cookies from table stepped new new_table is = sound_quiet m spelled initial (is_sound_initial m.header) refl cookies from stepped new is.0
+  read_quiet m spelled false initial cookies from table stepped new new_table is = found_quiet m spelled (place_meant m.header old.associations) refl table stepped new new_table is
+
+  datagram_quiet : (cookies : CookieSecrets) (from : Octets) (table : Database) (stepped : Stepped) (new : Held) (new_table : Database)
+      → TakesDatagram meaning setup cookies from octets old table stepped new new_table → IsQuiet stepped.output
+  datagram_quiet cookies from table stepped new new_table (inl fails) = passed_quiet _ old stepped new fails.passed
+  datagram_quiet cookies from table stepped new new_table (inr reads) =
+      read_quiet reads.message reads.spelled (is_initial_request reads.message.header) refl cookies from table stepped new new_table reads.done
+
+-- so it changes nothing
+pub strange_still : (facts : StrangerFacts) (meaning : Meaning) (entries : List Entry) (from octets : Octets) (fresh : Fresh) (old : Machine) (table : Database) (stepped : Stepped) (new : Machine) (new_table : Database)
+    → IsStrangeDatagram meaning old.held octets → ike.Steps meaning entries (ike.Message from octets fresh) old table stepped new new_table → (new ≡ old) × (new_table ≡ table)
+strange_still facts meaning entries from octets fresh old table stepped new new_table strange is =
+    facts.quiet meaning entries (ike.Message from octets fresh) old table stepped new new_table is
+    (datagram_quiet facts meaning (setup_at old entries fresh) octets old.held strange old.cookies from table stepped new.held new_table is.1)
+
+-- ---- a packet that passes no check
+
+passes : (table : Database) (octets : Octets) (child : ℕ) (pair : Pair) (number : ℕ) → pair_at table.pairs child ≡ Some pair
+    → PassesIntegrity pair.inbound.association number octets → PassesACheck table octets
+passes table octets child pair number there intact = record { child = child; pair = pair; there = there; number = number; intact = intact }
+
+padding_or_not : (old : Database) (serial : ℕ) (packet : Octets) (fault : EspFault) (new : Database) → RefusesAt old serial packet fault new → (PassesACheck old packet → ⊥) → (fault ≢ esp.BadPadding → new ≡ old) → new ≡ old
+padding_or_not old serial packet esp.BadPadding new is never still = absurd (never (passes old packet serial is.pair is.refused.0 is.changed.there is.refused.1.judged.intact))
+padding_or_not old serial packet esp.Exhausted new is never still = still (λ e. cc)
+padding_or_not old serial packet esp.PayloadSize new is never still = still (λ e. cc)
+padding_or_not old serial packet esp.BadLength new is never still = still (λ e. cc)
+padding_or_not old serial packet esp.Old new is never still = still (λ e. cc)
+padding_or_not old serial packet esp.Replayed new is never still = still (λ e. cc)
+padding_or_not old serial packet esp.BadNumber new is never still = still (λ e. cc)
+padding_or_not old serial packet esp.BadIcv new is never still = still (λ e. cc)
+padding_or_not old serial packet esp.Memory new is never still = still (λ e. cc)
+
+unopened_still : (old : Database) (packet : Octets) (fault : PacketFault) (new : Database) → (PassesACheck old packet → ⊥) → IsUnopened old packet fault new → new ≡ old
+unopened_still old packet (Esp fault) new never is = padding_or_not old is.pair.serial packet fault new is.refused never is.unchanged
+unopened_still old packet (Inner fault) new never is = absurd is
+unopened_still old packet UnknownAssociation new never is = absurd is
+unopened_still old packet OutsideSelectors new never is = absurd is
+
+pub packet_still : (old : Database) (packet : Octets) (o : Outcome) (new : Database) → (PassesACheck old packet → ⊥) → Receives old packet o new → new ≡ old
+packet_still old packet (Up child number inner) new never is =
+    absurd (never (passes old packet child is.opened.pair number is.opened.changed.there is.opened.opened.judged.intact))
+packet_still old packet (Dummy child number) new never is =
+    absurd (never (passes old packet child is.opened.pair number is.opened.changed.there is.opened.opened.judged.intact))
+packet_still old packet (Dropped fault) new never is = elim is [
+  | inl none ↦ none.1
+  | inr some ↦ elim some [
+    | inl unopened ↦ unopened_still old packet fault new never unopened
+    | inr rejected ↦
+        let o = rejected.opened.opened in
+        absurd (never (passes old packet rejected.child o.pair rejected.number o.changed.there o.opened.judged.intact))
+  ]
+]
+packet_still old packet (Sealed child number octets) new never is = absurd is
+packet_still old packet (Clear octets) new never is = absurd is
+packet_still old packet Discarded new never is = absurd is
+
+-- ---- a request of IKE_SA_INIT adds a half-open IKE SA, or nothing
+
+abbrev pub OneSpelling : Type 0
+OneSpelling = (one other : Message) (octets : Octets) → Spells one octets → Spells other octets → one ≡ other
+
+pub record AddsOne (old new : Held) : Type 0 where
+  pub association : Association
+  pub serial : association.serial ≡ old.next
+  pub half_open : IsHalfOpen association.phase
+  pub outgoing : association.outgoing ≡ none_issued
+  pub content : new ≡ with_next old association
+
+abbrev pub Adds : Held → Held → Type 0
+Adds old new = (new ≡ old) ⊎ AddsOne old new
+
+judged_adds : (meaning : Meaning) (setup : Setup) (spi_i : ℕ) (octets : Octets) (j : JudgementView) (old : Held) (stepped : Stepped) (new : Held)
+    → DoesJudgement meaning setup spi_i octets j old stepped new → Adds old new
+judged_adds meaning setup spi_i octets (Answered notice) old stepped new is = inl is.1
+judged_adds meaning setup spi_i octets Incomplete old stepped new is = inl is.unchanged
+judged_adds meaning setup spi_i octets Full old stepped new is = inl is.unchanged
+judged_adds meaning setup spi_i octets (Accepted offer) old stepped new is = elim is.done [
+  | inl refused ↦ inl refused.1.unchanged
+  | inr admits ↦ inr (record {
+    association = admits.admitted.association;
+    serial = ap (λ (a : Association). a.serial) admits.admits.content;
+    half_open = record { opened = _; is = ap (λ (a : Association). a.phase) admits.admits.content };
+    outgoing = ap (λ (a : Association). a.outgoing) admits.admits.content;
+    content = admits.content;
+  })
+]
+
+first_adds : (place : Option ℕ) (meaning : Meaning) (setup : Setup) (cookies : CookieSecrets) (from octets : Octets) (m : Message) (old : Held) (stepped : Stepped) (new : Held)
+    → TakesRequestAt place meaning setup cookies from octets m old stepped new → Adds old new
+first_adds (Some place) meaning setup cookies from octets m old stepped new is = inl is.1
+first_adds None meaning setup cookies from octets m old stepped new is = judged_adds meaning setup m.header.spi_i octets is.judgement old stepped new is.done
+
+pub sound_adds : (b : Bool) (meaning : Meaning) (setup : Setup) (cookies : CookieSecrets) (from octets : Octets) (m : Message) (old : Held) (stepped : Stepped) (new : Held)
+    → TakesSound b meaning setup cookies from octets m old stepped new → Adds old new
+sound_adds true meaning setup cookies from octets m old stepped new is =
+    first_adds (position (is_answered octets) old.associations) meaning setup cookies from octets m old stepped new is
+sound_adds false meaning setup cookies from octets m old stepped new is = inl is.unchanged
+
+read_adds : (b : Bool) (meaning : Meaning) (setup : Setup) (cookies : CookieSecrets) (from octets : Octets) (m : Message) (old : Held) (table : Database) (stepped : Stepped) (new : Held) (new_table : Database)
+    → b ≡ true → TakesRead b meaning setup cookies from octets m old table stepped new new_table → Adds old new × (new_table ≡ table)
+read_adds true meaning setup cookies from octets m old table stepped new new_table initial is = (sound_adds (is_sound_initial m.header) meaning setup cookies from octets m old stepped new is.0, is.1)
+read_adds false meaning setup cookies from octets m old table stepped new new_table initial is = absurd cc
+
+pub initial_adds : (one : OneSpelling) (meaning : Meaning) (setup : Setup) (cookies : CookieSecrets) (from octets : Octets) (old : Held) (table : Database) (stepped : Stepped) (new : Held) (new_table : Database)
+    → IsInitialRequest octets → TakesDatagram meaning setup cookies from octets old table stepped new new_table → Adds old new × (new_table ≡ table)
+initial_adds one meaning setup cookies from octets old table stepped new new_table initial (inl fails) = (inl fails.passed.unchanged, fails.unchanged)
+initial_adds one meaning setup cookies from octets old table stepped new new_table initial (inr reads) =
+    let same = one reads.message initial.message octets reads.spelled initial.spelled in
+    read_adds (is_initial_request reads.message.header) meaning setup cookies from octets reads.message old table stepped new new_table
+    (ap (λ (m : Message). is_initial_request m.header) same ∙ initial.initial) reads.done

@@ -1,0 +1,16 @@
+use Rattle.laws_authenticated.proofs.KeylessLemmas.{first_requests_add}
+use Rattle.laws_authenticated.proofs.KeylessLemmas as lemma
+use Rattle.laws_authenticated.proofs.StrangerLemmas.{StrangerFacts}
+use Rattle.laws_authenticated.proofs.laws.strangers_change_nothing.Goals as goal
+
+pub returns : goal.returns
+returns g c =
+    let facts : StrangerFacts = record {
+      effective = c.receptions_say_why.ensures.effective;
+      answering = c.receptions_say_why.ensures.answering;
+      quiet = c.what_is_quiet_changes_nothing.ensures;
+    } in
+    record {
+      strange = λ meaning_of p is strange. lemma.strangers_change_nothing facts meaning_of p is strange;
+      first = λ meaning_of from octets fresh p is given initial. first_requests_add c.octets_spell_one_message.ensures.message meaning_of from octets fresh p is given initial;
+    }

@@ -1,0 +1,132 @@
+//! What follows from the definitions alone. No function here does anything.
+ghost use Rattle.std.specs.Prelude.{◌≡◌, ℕ, List, Some, slice_get};
+ghost use Rattle.base.specs.Octets.{Octets};
+ghost use Rattle.suite.specs.declared.fresh.Fresh.{Fresh};
+ghost use Rattle.policy.specs.declared.entry.Entry.{Entry};
+ghost use Rattle.setup.specs.declared.config.Config.{Config};
+ghost use Rattle.effects.specs.Taking.{Meaning};
+ghost use Rattle.ike.specs.Receiving.{IsInitialRequest};
+ghost use Rattle.gateway.specs.Histories.{IsHistory, IsPassage, Passage};
+ghost use Rattle.gateway.specs.Inputs.{Ike, Input};
+ghost use Rattle.gateway.specs.States.{State, new_gateway};
+ghost use Rattle.gateway.specs.declared.output.Output.{Output};
+ghost use Rattle.laws_authenticated.specs.Carrying.{EachPairIsOfAnEstablished, KeepsSettings, OnlyTheKnownCarry, OnlyTheProvedCarry};
+ghost use Rattle.laws_authenticated.specs.Inside.{LiesInside};
+ghost use Rattle.laws_authenticated.specs.Strangers.{AddsAtMostAHalfOpen, IsAsItWas, IsStrange};
+
+use association::laws::receptions_say_why;
+use ike::laws::{
+    children_are_made_of_their_messages, requests_are_remembered, steps_keep_their_laws,
+    traces_name_what_is_held, what_is_quiet_changes_nothing,
+};
+use moments::laws::{pairs_go_with_their_associations, some_are_held_on, what_is_held_was_held};
+use wire::laws::octets_spell_one_message;
+
+/// Each SA pair in the table belongs to an IKE SA that is held and established (RFC 4301, section 4.4.2):
+/// in a new gateway, which has no pair, and after every step of a gateway of which it held before. An IKE
+/// SA that is closed, by its peer, by a command or by a tick, takes its pairs along.
+pub fn pairs_belong_to_the_established<C>()
+    ensures begun { (config : Config) (entries : List Entry) (start : ℕ) (caller : C)
+        → EachPairIsOfAnEstablished (new_gateway config entries start caller) }
+    ensures stepped { (meaning_of : C → Meaning) (p : Passage C) → IsPassage meaning_of p
+        → EachPairIsOfAnEstablished p.before → EachPairIsOfAnEstablished p.after }
+{
+    steps_keep_their_laws();
+    children_are_made_of_their_messages();
+    requests_are_remembered();
+    traces_name_what_is_held();
+    what_is_held_was_held();
+    pairs_go_with_their_associations();
+}
+
+/// Only the authenticated carry (RFC 7296, section 2.15; RFC 4301, sections 4.4.2 and 4.4.3). Over every
+/// list of inputs, whatever comes, three things are of a Child SA whose pair stands before the step, of an
+/// IKE SA that is established then: each SA pair in the table, each ESP packet that is accepted, and each
+/// output that delivers or seals one or calls one a dummy.
+///
+/// - That IKE SA was so before the list and ever since; or at an earlier step its peer proved itself, and it
+///   has been established ever since. *Proved itself* means by a datagram that opened under its keys, to what
+///   the caller's check accepts of the configured identity.
+/// - The Child SA was there before the list; or at an earlier step a datagram made it, of that IKE SA and
+///   under the same keys of it, out of the payloads of its exchange.
+///
+/// It asks that each pair is of an established IKE SA before the list, as in a new gateway, and leaves it so:
+/// calls in a row keep it (`known`). Of a new gateway both were steps of the list (`proved`). Configuration,
+/// policy and provider are those of the beginning throughout (`settings`).
+pub fn only_the_authenticated_carry<C>()
+    ensures known { (meaning_of : C → Meaning) (inputs : List Input) (outputs : List Output) (old new : State C)
+        (passages : List (Passage C))
+        → IsHistory meaning_of inputs outputs old new passages
+        → EachPairIsOfAnEstablished old
+        → OnlyTheKnownCarry meaning_of passages × EachPairIsOfAnEstablished new }
+    ensures proved { (meaning_of : C → Meaning) (config : Config) (entries : List Entry) (start : ℕ) (caller : C)
+        (inputs : List Input) (outputs : List Output) (new : State C) (passages : List (Passage C))
+        → IsHistory meaning_of inputs outputs (new_gateway config entries start caller) new passages
+        → OnlyTheProvedCarry meaning_of passages }
+    ensures settings { (meaning_of : C → Meaning) (inputs : List Input) (outputs : List Output) (old new : State C)
+        (passages : List (Passage C)) (place : ℕ) (p : Passage C)
+        → IsHistory meaning_of inputs outputs old new passages
+        → slice_get passages place ≡ Some p
+        → KeepsSettings old p }
+{
+    steps_keep_their_laws();
+    children_are_made_of_their_messages();
+    requests_are_remembered();
+    traces_name_what_is_held();
+    what_is_held_was_held();
+    pairs_go_with_their_associations();
+}
+
+/// All that is asked for and made lies inside the policy (RFC 4301, section 4.4.1; RFC 7296, section 2.9):
+/// of each SA pair what is remote to this end lies inside the remote side of one entry that protects, and
+/// what is local inside its local side. That is the entry that the peer's offer was narrowed to, or the one
+/// that a command named. So it is of each Child SA that an IKE SA still waits for.
+///
+/// So it is in a new gateway, and after every step of one of which it held before (`begun`, `stepped`):
+/// before each step of a list and after it (`kept`). With what `run` promises of deliveries, a payload that
+/// is delivered lies inside such an entry too.
+pub fn children_lie_inside_the_policy<C>()
+    ensures begun { (config : Config) (entries : List Entry) (start : ℕ) (caller : C)
+        → LiesInside (new_gateway config entries start caller) }
+    ensures stepped { (meaning_of : C → Meaning) (p : Passage C) → IsPassage meaning_of p
+        → LiesInside p.before → LiesInside p.after }
+    ensures kept { (meaning_of : C → Meaning) (inputs : List Input) (outputs : List Output) (old new : State C)
+        (passages : List (Passage C)) (place : ℕ) (p : Passage C)
+        → IsHistory meaning_of inputs outputs old new passages
+        → LiesInside old
+        → slice_get passages place ≡ Some p
+        → LiesInside p.before × LiesInside new }
+{
+    steps_keep_their_laws();
+    children_are_made_of_their_messages();
+    requests_are_remembered();
+    traces_name_what_is_held();
+    what_is_held_was_held();
+    pairs_go_with_their_associations();
+    effects::laws::children_are_made_of_their_messages();
+    some_are_held_on();
+}
+
+/// Who has no keys changes nothing of a gateway (RFC 7296, sections 1.2 and 2.6; RFC 4303, section 3.4.4).
+///
+/// - A datagram that opens under no keys held here, and is neither a request of IKE_SA_INIT nor for an IKE
+///   SA that waits for the response to its own, leaves the gateway as it was, but for the table's spare
+///   capacity; so does a packet that passes no check (`strange`).
+/// - A request of IKE_SA_INIT makes one half-open IKE SA at most, and changes nothing else (`first`).
+///
+/// What comes for an IKE SA that waits for the response to IKE_SA_INIT may change that one: whoever sees its
+/// request can answer it.
+pub fn strangers_change_nothing<C>()
+    ensures strange { (meaning_of : C → Meaning) (p : Passage C) → IsPassage meaning_of p
+        → IsStrange (meaning_of p.before.caller) p.before p.given
+        → IsAsItWas p.before p.after }
+    ensures first { (meaning_of : C → Meaning) (from octets : Octets) (fresh : Fresh) (p : Passage C)
+        → IsPassage meaning_of p
+        → p.given ≡ Ike from octets fresh
+        → IsInitialRequest octets
+        → AddsAtMostAHalfOpen p.before p.after }
+{
+    receptions_say_why();
+    what_is_quiet_changes_nothing();
+    octets_spell_one_message();
+}
