@@ -14,8 +14,8 @@ use Rattle.gateway.specs.Outputs.{OutputView}
 use Rattle.gateway.specs.States.{State}
 use Rattle.gateway.specs.Steps.{DoesInput, StepsIke}
 use Rattle.ike.specs.declared.output.Trace.{Trace}
-use Rattle.laws_authenticated.specs.Strangers.{AddsAtMostAHalfOpen, HoldsOneMore, IsAsItWas, IsStrange}
-use Rattle.laws_authenticated.proofs.StrangerLemmas.{initial_adds, packet_still, strange_still, Adds, OneSpelling, StrangerFacts}
+use Rattle.laws_authenticated.specs.Strangers.{AddsAtMostAHalfOpen, ChangesAtMostOneWaiting, ChangesOneWaiting, HoldsOneMore, IsAsItWas, IsStrange, OpensUnderKeysHeld}
+use Rattle.laws_authenticated.proofs.StrangerLemmas.{initial_adds, keyless_changes, packet_still, strange_still, Adds, ChangesOneHeld, OneSpelling, StrangerFacts}
 
 as_before : (d : Database) → IsAsBefore d d
 as_before d = record { content = refl; room = omega arith }
@@ -64,6 +64,34 @@ module _ {C : Type 0} (old new : State C) where
       let adds = initial_adds one meaning (setup_at old.machine old.entries fresh) old.machine.cookies from octets old.machine.held old.table is.stepped new.machine.held new.table initial is.steps.1 in
       record { content = kept; machine = one_more is.steps.0 adds.0; table = table_as adds.1 }
   first_ike one meaning from octets fresh s trace kept initial (inr is) = record { content = kept; machine = inl is.machine; table = is.pairs }
+
+module _ {C : Type 0} (old new : State C) where
+  one_waiting : new.machine ≡ record old.machine { held = new.machine.held } → (new.machine ≡ old.machine) ⊎ ChangesOneHeld old.machine.held new.machine.held
+      → (new.machine ≡ old.machine) ⊎ ChangesOneWaiting old.machine new.machine
+  one_waiting rest (inl same) = inl same
+  one_waiting rest (inr one) = inr (record {
+    place = one.place;
+    was = one.was;
+    there = one.there;
+    waits = one.waits;
+    is = one.is;
+    serial = one.serial;
+    content = rest ∙ ap (λ (h : Held). record old.machine { held = h }) one.content;
+  })
+
+  keyless_ike : (facts : StrangerFacts) (meaning : Meaning) (from octets : Octets) (fresh : Fresh) (s : OutputView) (trace : Trace)
+      → new ≡ record old { machine = new.machine; table = new.table } → (OpensUnderKeysHeld meaning.plain_of old.machine.held octets → ⊥) → (IsInitialRequest octets → ⊥)
+      → StepsIke meaning old.entries (ike.Message from octets fresh) old.machine old.table s trace new.machine new.table → ChangesAtMostOneWaiting old new
+  keyless_ike facts meaning from octets fresh s trace kept sealed first (inl is) =
+      let changes = keyless_changes facts meaning old.entries from octets fresh old.machine old.table is.stepped new.machine new.table sealed first is.steps in
+      record { content = kept; machine = one_waiting is.steps.0 changes.0; table = table_as old new changes.1 }
+  keyless_ike facts meaning from octets fresh s trace kept sealed first (inr is) = record { content = kept; machine = inl is.machine; table = is.pairs }
+
+pub keyless_change : {C : Type 0} (facts : StrangerFacts) (meaning_of : C → Meaning) (from octets : Octets) (fresh : Fresh) (p : Passage C) → IsPassage meaning_of p → p.given ≡ input.Ike from octets fresh
+    → (OpensUnderKeysHeld (meaning_of p.before.caller).plain_of p.before.machine.held octets → ⊥) → (IsInitialRequest octets → ⊥) → ChangesAtMostOneWaiting p.before p.after
+keyless_change {C} facts meaning_of from octets fresh p is given sealed first =
+    keyless_ike p.before p.after facts (meaning_of p.before.caller) from octets fresh p.said is.steps.trace is.steps.traces.kept sealed first
+    (subst (λ (i : Input). DoesInput (meaning_of p.before.caller) p.before.entries i p.before.machine p.before.table p.said is.steps.trace p.after.machine p.after.table) given is.steps.traces.does)
 
 pub strangers_change_nothing : {C : Type 0} (facts : StrangerFacts) (meaning_of : C → Meaning) (p : Passage C) → IsPassage meaning_of p → IsStrange (meaning_of p.before.caller) p.before p.given → IsAsItWas p.before p.after
 strangers_change_nothing {C} facts meaning_of p is strange =

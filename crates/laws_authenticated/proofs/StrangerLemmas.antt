@@ -1,6 +1,7 @@
 -- Who has no keys changes nothing.
 use Rattle.std.proofs.Common.{◌≡◌, ◌≢◌, ◌⊎◌, ℕ, Bool, true, false, List, Option, Some, None, Result, Ok, Err, refl, ap, subst, sym, ◌∙◌, inl, inr}
 use Rattle.std.specs.List.{position, slice_get}
+use Rattle.std.specs.Prelude.{slice_set}
 use Rattle.base.specs.Octets.{Octets}
 use Rattle.wire.specs.Messages.{Spells}
 use Rattle.wire.specs.declared.message.Message.{Message}
@@ -20,8 +21,10 @@ use Rattle.association.specs.Receiving.{IsAnswering, IsEffective, IsReceived, Op
 use Rattle.association.specs.declared.fault.MessageFault.{MessageFault}
 use Rattle.association.specs.declared.phase.Association.{Association}
 use Rattle.initial.specs.Answering.{IsHalfOpen}
+use Rattle.initial.specs.Reading.{IsInitSent}
 use Rattle.setup.specs.Configs.{Setup}
-use Rattle.effects.specs.Taking.{Does, Meaning}
+use Rattle.effects.specs.LawsOfStaying.{AssociationsStayThemselves}
+use Rattle.effects.specs.Taking.{Does, Meaning, TakesMessage}
 use Rattle.effects.specs.declared.taking.Effect.{Effect}
 use Rattle.effects.specs.declared.taking.Effect.TheVariants as effect
 use Rattle.ike.specs.LawsOfSteps.{WhatIsQuietChangesNothing}
@@ -35,13 +38,14 @@ use Rattle.traffic.specs.Outcomes.{Outcome, Up, Dummy, Sealed, Clear, Discarded,
 use Rattle.traffic.specs.Receiving.{IsUnopened, Receives}
 use Rattle.traffic.specs.declared.fault.PacketFault.{PacketFault}
 use Rattle.traffic.specs.declared.fault.PacketFault.TheVariants.{UnknownAssociation, Esp, Inner, OutsideSelectors}
-use Rattle.laws_authenticated.specs.Strangers.{IsStrangeDatagram, PassesACheck}
+use Rattle.laws_authenticated.specs.Strangers.{IsStrangeDatagram, OpensUnderKeysHeld, PassesACheck}
 
 -- what is known of what a message is to an IKE SA, and of a step that says nothing
 pub record StrangerFacts : Type 0 where
   pub effective : (plain_of : Opening) (a : Association) (octets : Octets) (m : Message) (plain : Plain) → IsReceived plain_of a octets m (TakesEffect plain) → IsEffective plain_of a octets m plain
   pub answering : (plain_of : Opening) (a : Association) (octets : Octets) (m : Message) (plain : Plain) → IsReceived plain_of a octets m (Answers plain) → IsAnswering plain_of a octets m plain
   pub quiet : WhatIsQuietChangesNothing
+  pub itself : AssociationsStayThemselves
 
 -- what a step says, by what it is
 quiet_as : (s t : Stepped) → s ≡ t → IsQuiet t.output → IsQuiet s.output
@@ -232,3 +236,77 @@ initial_adds one meaning setup cookies from octets old table stepped new new_tab
     let same = one reads.message initial.message octets reads.spelled initial.spelled in
     read_adds (is_initial_request reads.message.header) meaning setup cookies from octets reads.message old table stepped new new_table
     (ap (λ (m : Message). is_initial_request m.header) same ∙ initial.initial) reads.done
+
+-- ---- what opens under no keys changes one IKE SA that waits, or nothing
+
+pub record ChangesOneHeld (old new : Held) : Type 0 where
+  pub place : ℕ
+  pub was : Association
+  pub there : slice_get old.associations place ≡ Some was
+  pub waits : IsInitSent was.phase
+  pub is : Association
+  pub serial : is.serial ≡ was.serial
+  pub content : new ≡ record old { associations = slice_set old.associations place is }
+
+abbrev pub WaitingOrQuiet : Stepped → Held → Held → Database → Database → Type 0
+WaitingOrQuiet stepped old new table new_table = IsQuiet stepped.output ⊎ (ChangesOneHeld old new × (new_table ≡ table))
+
+module _ (facts : StrangerFacts) (meaning : Meaning) (setup : Setup) (octets : Octets) (old : Held) (sealed : OpensUnderKeysHeld meaning.plain_of old octets → ⊥) where
+  received_waiting : (m : Message) → Spells m octets → (place : ℕ) (a : Association) → slice_get old.associations place ≡ Some a
+      → (table : Database) (r : Reception) (e : Effect) (changed : Association) (new_table : Database) → TakesMessage meaning setup a table octets m e changed new_table
+      → IsReceived meaning.plain_of a octets m r → Does meaning setup a table octets m r e changed new_table
+      → (stepped : Stepped) (new : Held) → stepped ≡ stepped_of a.serial m.header.id e → new ≡ record old { associations = slice_set old.associations place changed } → WaitingOrQuiet stepped old new table new_table
+  received_waiting m spelled place a there table (Refused fault) e changed new_table takes received does stepped new said content =
+      inl (quiet_as stepped _ said (refused_quiet a.serial m.header.id meaning setup a table octets m fault e changed new_table does))
+  received_waiting m spelled place a there table (Repeat reply) e changed new_table takes received does stepped new said content =
+      inl (quiet_as stepped _ said (repeated_quiet a.serial m.header.id meaning setup a table octets m reply e changed new_table does))
+  received_waiting m spelled place a there table (TakesEffect plain) e changed new_table takes received does stepped new said content =
+      absurd (sealed (record { message = m; spelled = spelled; place = place; association = a; there = there; plain = plain; opened = (facts.effective meaning.plain_of a octets m plain received).opened }))
+  received_waiting m spelled place a there table (Answers plain) e changed new_table takes received does stepped new said content =
+      absurd (sealed (record { message = m; spelled = spelled; place = place; association = a; there = there; plain = plain; opened = (facts.answering meaning.plain_of a octets m plain received).opened }))
+  received_waiting m spelled place a there table AnswersInitial e changed new_table takes received does stepped new said content =
+      inr (
+        record {
+          place = place;
+          was = a;
+          there = there;
+          waits = record { sent = does.0.read.sent; is = does.0.read.was };
+          is = changed;
+          serial = (facts.itself meaning setup a table octets m e changed new_table takes).serial;
+          content = content;
+        },
+        does.1,
+      )
+
+  found_waiting : (m : Message) → Spells m octets → (found : Result ℕ MessageFault) → (table : Database) (stepped : Stepped) (new : Held) (new_table : Database) → TakesFound found meaning setup octets m old table stepped new new_table
+      → WaitingOrQuiet stepped old new table new_table
+  found_waiting m spelled (Ok place) table stepped new new_table is =
+      received_waiting m spelled place is.association is.there table is.takes.reception is.effect is.changed new_table is.takes is.takes.received is.takes.done stepped new is.said is.content
+  found_waiting m spelled (Err fault) table stepped new new_table is = inl (passed_quiet _ old stepped new is.0)
+
+  sound_waiting : (m : Message) → Spells m octets → is_initial_request m.header ≡ true → (IsInitialRequest octets → ⊥) → (b : Bool) → is_sound_initial m.header ≡ b
+      → (cookies : CookieSecrets) (from : Octets) (stepped : Stepped) (new : Held) → TakesSound b meaning setup cookies from octets m old stepped new → IsQuiet stepped.output
+  sound_waiting m spelled initial first true sound cookies from stepped new is = absurd (first (record { message = m; spelled = spelled; initial = initial; sound = sound }))
+  sound_waiting m spelled initial first false sound cookies from stepped new is = passed_quiet _ old stepped new is
+
+  read_waiting : (m : Message) → Spells m octets → (IsInitialRequest octets → ⊥) → (b : Bool) → is_initial_request m.header ≡ b
+      → (cookies : CookieSecrets) (from : Octets) (table : Database) (stepped : Stepped) (new : Held) (new_table : Database)
+      → TakesRead b meaning setup cookies from octets m old table stepped new new_table → WaitingOrQuiet stepped old new table new_table
+  read_waiting m spelled first true initial cookies from table stepped new new_table is = inl (sound_waiting m spelled initial first (is_sound_initial m.header) refl cookies from stepped new is.0)
+  read_waiting m spelled first false initial cookies from table stepped new new_table is = found_waiting m spelled (place_meant m.header old.associations) table stepped new new_table is
+
+  datagram_waiting : (IsInitialRequest octets → ⊥) → (cookies : CookieSecrets) (from : Octets) (table : Database) (stepped : Stepped) (new : Held) (new_table : Database)
+      → TakesDatagram meaning setup cookies from octets old table stepped new new_table → WaitingOrQuiet stepped old new table new_table
+  datagram_waiting first cookies from table stepped new new_table (inl fails) = inl (passed_quiet _ old stepped new fails.passed)
+  datagram_waiting first cookies from table stepped new new_table (inr reads) =
+      read_waiting reads.message reads.spelled first (is_initial_request reads.message.header) refl cookies from table stepped new new_table reads.done
+
+-- so at most one IKE SA that waits is changed
+pub keyless_changes : (facts : StrangerFacts) (meaning : Meaning) (entries : List Entry) (from octets : Octets) (fresh : Fresh) (old : Machine) (table : Database) (stepped : Stepped) (new : Machine) (new_table : Database)
+    → (OpensUnderKeysHeld meaning.plain_of old.held octets → ⊥) → (IsInitialRequest octets → ⊥) → ike.Steps meaning entries (ike.Message from octets fresh) old table stepped new new_table
+    → ((new ≡ old) ⊎ ChangesOneHeld old.held new.held) × (new_table ≡ table)
+keyless_changes facts meaning entries from octets fresh old table stepped new new_table sealed first is =
+    elim (datagram_waiting facts meaning (setup_at old entries fresh) octets old.held sealed first old.cookies from table stepped new.held new_table is.1) [
+      | inl quiet ↦ (let still = facts.quiet meaning entries (ike.Message from octets fresh) old table stepped new new_table is quiet in (inl still.0, still.1))
+      | inr changes ↦ (inr changes.0, changes.1)
+    ]

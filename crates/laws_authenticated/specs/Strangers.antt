@@ -1,5 +1,5 @@
 -- Who has no keys changes nothing (RFC 7296 sections 1.2, 2.6 and 3.14; RFC 4303 section 3.4.4).
-use Rattle.std.specs.Prelude.{◌≡◌, ◌⊎◌, ℕ, Ok, Some, slice_get}
+use Rattle.std.specs.Prelude.{◌≡◌, ◌⊎◌, ℕ, Ok, Some, slice_get, slice_set}
 use Rattle.base.specs.Octets.{Octets}
 use Rattle.wire.specs.Messages.{Spells}
 use Rattle.wire.specs.declared.message.Message.{Message}
@@ -77,4 +77,22 @@ pub record HoldsOneMore (old new : Machine) : Type 0 where
 pub record AddsAtMostAHalfOpen {C : Type 0} (old new : State C) : Type 0 where
   pub content : new ≡ record old { machine = new.machine; table = new.table }
   pub machine : (new.machine ≡ old.machine) ⊎ HoldsOneMore old.machine new.machine
+  pub table : IsAsBefore old.table new.table
+
+-- one IKE SA that waits for the response to IKE_SA_INIT becomes another under its serial, and all else is
+-- as it was
+pub record ChangesOneWaiting (old new : Machine) : Type 0 where
+  pub place : ℕ
+  pub was : Association
+  pub there : slice_get old.held.associations place ≡ Some was
+  pub waits : IsInitSent was.phase
+  pub is : Association
+  pub serial : is.serial ≡ was.serial
+  pub content : new ≡ record old { held = record old.held { associations = slice_set old.held.associations place is } }
+
+-- The gateway is as it was but for spare capacity, or one IKE SA that waits for the response to IKE_SA_INIT
+-- is changed, and all else is as it was, the table too.
+pub record ChangesAtMostOneWaiting {C : Type 0} (old new : State C) : Type 0 where
+  pub content : new ≡ record old { machine = new.machine; table = new.table }
+  pub machine : (new.machine ≡ old.machine) ⊎ ChangesOneWaiting old.machine new.machine
   pub table : IsAsBefore old.table new.table

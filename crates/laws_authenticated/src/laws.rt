@@ -7,14 +7,19 @@ ghost use Rattle.setup.specs.declared.config.Config.{Config};
 ghost use Rattle.effects.specs.Taking.{Meaning};
 ghost use Rattle.ike.specs.Receiving.{IsInitialRequest};
 ghost use Rattle.gateway.specs.Histories.{IsHistory, IsPassage, Passage};
-ghost use Rattle.gateway.specs.Inputs.{Ike, Input};
+ghost use Rattle.gateway.specs.Inputs.{Event, Ike, Input};
+ghost use Rattle.gateway.specs.WorldHistories.{Happening, IsWorldHistory, passages_at};
+ghost use Rattle.gateway.specs.Worlds.{WorldState, gateway_at};
+ghost use Rattle.gateway.specs.declared.world.stored.End.{End};
 ghost use Rattle.gateway.specs.States.{State, new_gateway};
 ghost use Rattle.gateway.specs.declared.output.Output.{Output};
 ghost use Rattle.laws_authenticated.specs.Carrying.{EachPairIsOfAnEstablished, KeepsSettings, OnlyTheKnownCarry, OnlyTheProvedCarry};
 ghost use Rattle.laws_authenticated.specs.Inside.{LiesInside};
-ghost use Rattle.laws_authenticated.specs.Strangers.{AddsAtMostAHalfOpen, IsAsItWas, IsStrange};
+ghost use Rattle.laws_authenticated.specs.Strangers.{AddsAtMostAHalfOpen, ChangesAtMostOneWaiting, IsAsItWas, IsStrange, OpensUnderKeysHeld};
 
 use association::laws::receptions_say_why;
+use effects::laws::associations_stay_themselves;
+use gateway::laws::each_end_has_its_events;
 use ike::laws::{
     children_are_made_of_their_messages, requests_are_remembered, steps_keep_their_laws,
     traces_name_what_is_held, what_is_quiet_changes_nothing,
@@ -77,6 +82,26 @@ pub fn only_the_authenticated_carry<C>()
     pairs_go_with_their_associations();
 }
 
+/// So it is at each end of a world of two gateways, as `gateway::run_world` plays it, over every list of
+/// events of either end in whatever order.
+pub fn at_each_end_only_the_authenticated_carry<C>()
+    ensures known { (meaning_of : C → Meaning) (end : End) (events : List Event) (outputs : List Output)
+        (old new : WorldState C) (happenings : List (Happening C))
+        → IsWorldHistory meaning_of events outputs old new happenings
+        → EachPairIsOfAnEstablished (gateway_at end old)
+        → OnlyTheKnownCarry meaning_of (passages_at end happenings)
+        × EachPairIsOfAnEstablished (gateway_at end new) }
+    ensures proved { (meaning_of : C → Meaning) (end : End) (config : Config) (entries : List Entry) (start : ℕ)
+        (caller : C) (events : List Event) (outputs : List Output)
+        (old new : WorldState C) (happenings : List (Happening C))
+        → gateway_at end old ≡ new_gateway config entries start caller
+        → IsWorldHistory meaning_of events outputs old new happenings
+        → OnlyTheProvedCarry meaning_of (passages_at end happenings) }
+{
+    each_end_has_its_events::<C>();
+    only_the_authenticated_carry::<C>();
+}
+
 /// All that is asked for and made lies inside the policy (RFC 4301, section 4.4.1; RFC 7296, section 2.9):
 /// of each SA pair what is remote to this end lies inside the remote side of one entry that protects, and
 /// what is local inside its local side. That is the entry that the peer's offer was narrowed to, or the one
@@ -107,15 +132,15 @@ pub fn children_lie_inside_the_policy<C>()
     some_are_held_on();
 }
 
-/// Who has no keys changes nothing of a gateway (RFC 7296, sections 1.2 and 2.6; RFC 4303, section 3.4.4).
+/// Who has no keys changes nothing of a gateway, but for IKE SAs that are just beginning (RFC 7296,
+/// sections 1.2 and 2.6; RFC 4303, section 3.4.4).
 ///
 /// - A datagram that opens under no keys held here, and is neither a request of IKE_SA_INIT nor for an IKE
 ///   SA that waits for the response to its own, leaves the gateway as it was, but for the table's spare
 ///   capacity; so does a packet that passes no check (`strange`).
 /// - A request of IKE_SA_INIT makes one half-open IKE SA at most, and changes nothing else (`first`).
-///
-/// What comes for an IKE SA that waits for the response to IKE_SA_INIT may change that one: whoever sees its
-/// request can answer it.
+/// - Any other datagram that opens under no keys changes one IKE SA at most that waits for the response to
+///   IKE_SA_INIT, and nothing else (`answer`): whoever sees its request can answer it.
 pub fn strangers_change_nothing<C>()
     ensures strange { (meaning_of : C → Meaning) (p : Passage C) → IsPassage meaning_of p
         → IsStrange (meaning_of p.before.caller) p.before p.given
@@ -125,8 +150,15 @@ pub fn strangers_change_nothing<C>()
         → p.given ≡ Ike from octets fresh
         → IsInitialRequest octets
         → AddsAtMostAHalfOpen p.before p.after }
+    ensures answer { (meaning_of : C → Meaning) (from octets : Octets) (fresh : Fresh) (p : Passage C)
+        → IsPassage meaning_of p
+        → p.given ≡ Ike from octets fresh
+        → ¬ OpensUnderKeysHeld (meaning_of p.before.caller).plain_of p.before.machine.held octets
+        → ¬ IsInitialRequest octets
+        → ChangesAtMostOneWaiting p.before p.after }
 {
     receptions_say_why();
     what_is_quiet_changes_nothing();
+    associations_stay_themselves();
     octets_spell_one_message();
 }
