@@ -26,18 +26,20 @@ use Rattle.traffic.specs.Admitting.{Admits}
 use Rattle.traffic.specs.Outcomes.{Outcome}
 use Rattle.traffic.specs.Outcomes as traffic
 use Rattle.traffic.specs.Receiving.{Receives}
-use Rattle.traffic.specs.Sending.{Sends}
+use Rattle.traffic.specs.Sending.{IsProtected, Sends}
 use Rattle.gateway.specs.Authentication.{IsEstablishedWith}
 use Rattle.gateway.specs.Histories.{IsPassage, IsTrail, Passage}
 use Rattle.gateway.specs.Inputs.{Input}
 use Rattle.gateway.specs.Inputs as input
 use Rattle.gateway.specs.Outputs.{view_of_ike, view_of_outcome, OutputView}
+use Rattle.gateway.specs.Outputs as output
+use Rattle.gateway.specs.declared.fault.Reason.{Reason}
 use Rattle.gateway.specs.Packets.{JudgesOne}
 use Rattle.gateway.specs.Requests.{for_ike}
 use Rattle.gateway.specs.States.{new_gateway, State}
 use Rattle.gateway.specs.Steps.{DoesInput, SendsPacket, StepsIke}
 use Rattle.gateway.proofs.HistoryLemmas.{at_place, exists, state_at}
-use Rattle.laws_authenticated.specs.Carrying.{child_said, EachPairIsOfAnEstablished, IsKnownAt, IsOfAKnownPeer, IsOfAProvedPeer, KeepsItself, KeepsSettings, OnlyTheKnownCarry, OnlyTheProvedCarry, StoodFrom, WasMadeBefore, WasThere}
+use Rattle.laws_authenticated.specs.Carrying.{child_said, EachPairIsOfAnEstablished, IsKnownAt, IsOfAKnownPeer, IsOfAProvedPeer, KeepsItself, KeepsSettings, OnlyTheKnownCarry, OnlyTheProvedCarry, SealsWhatIsProtected, StoodFrom, WasMadeBefore, WasThere}
 use Rattle.laws_authenticated.proofs.PacketLemmas.{received_stood, sent_stood, stood_same, AllStood}
 use Rattle.laws_authenticated.proofs.StepLemmas.{established_way, itself, pair_way, ProvesNow, Stands, StepFacts}
 
@@ -69,21 +71,23 @@ pub record Stayed {C : Type 0} (old new : State C) (child : ℕ) (pair : Pair) :
   pub on : (keys : KeyRecord) → IsEstablishedWith old pair.ike keys → IsEstablishedWith new pair.ike keys
 
 -- or a datagram made it
-pub record Came {C : Type 0} (meaning : Meaning) (given : Input) (old new : State C) (child : ℕ) (pair : Pair) : Type 0 where
+pub record Came {C : Type 0} (meaning : Meaning) (given : Input) (s : OutputView) (old new : State C) (child : ℕ) (pair : Pair) : Type 0 where
   pub from : Octets
   pub octets : Octets
   pub fresh : Fresh
   pub is : given ≡ input.Ike from octets fresh
   pub stepped : Stepped
+  pub output : s ≡ view_of_ike stepped.output
   pub made : MadeChild
+  pub named : stepped.trace.child ≡ Some made
   pub serial : made.serial ≡ child
   pub ike : made.ike ≡ pair.ike
   pub makes : MakesChildOf meaning (setup_at old.machine old.entries fresh) octets old.machine.held old.table stepped made new.machine.held new.table
   pub same : makes.makes.pair ≡ pair
   pub established : IsEstablishedWith new pair.ike makes.makes.keys
 
-abbrev pub Way : {C : Type 0} → Meaning → Input → State C → State C → ℕ → Pair → Type 0
-Way {C} meaning given old new child pair = Stayed old new child pair ⊎ Came meaning given old new child pair
+abbrev pub Way : {C : Type 0} → Meaning → Input → OutputView → State C → State C → ℕ → Pair → Type 0
+Way {C} meaning given s old new child pair = Stayed old new child pair ⊎ Came meaning given s old new child pair
 
 record Proves {C : Type 0} (meaning : Meaning) (given : Input) (old : State C) (serial : ℕ) (keys : KeyRecord) : Type 0 where
   pub view : ike.InputView
@@ -119,15 +123,15 @@ module _ {C : Type 0} (old new : State C) where
   room_stood is child pair there = record { was = pair; there = sym (ap (λ (d : Database). pair_at d.pairs child) is.content) ∙ there; same = itself pair }
 
 -- the machine stays, and each pair stood before
-kept : {C : Type 0} (meaning : Meaning) (given : Input) (old new : State C) → new.machine ≡ old.machine → AllStood old.table new.table
-    → (child : ℕ) (pair : Pair) → pair_at new.table.pairs child ≡ Some pair → Way meaning given old new child pair
-kept {C} meaning given old new same stood child pair there =
+kept : {C : Type 0} (meaning : Meaning) (given : Input) (s : OutputView) (old new : State C) → new.machine ≡ old.machine → AllStood old.table new.table
+    → (child : ℕ) (pair : Pair) → pair_at new.table.pairs child ≡ Some pair → Way meaning given s old new child pair
+kept {C} meaning given s old new same stood child pair there =
     let was = stood child pair there in
     inl (record { was = was.was; there = was.there; same = was.same; on = machine_on old new same pair.ike })
 
 module _ {C : Type 0} (facts : StepFacts) (meaning : Meaning) (given : Input) (old new : State C) where
   ike_pair : (view : ike.InputView) (s : OutputView) (trace : Trace) → for_ike given ≡ Some view → IsSoundMachine old.machine old.table → IsSoundTable old.table
-      → StepsIke meaning old.entries view old.machine old.table s trace new.machine new.table → (child : ℕ) (pair : Pair) → pair_at new.table.pairs child ≡ Some pair → Way meaning given old new child pair
+      → StepsIke meaning old.entries view old.machine old.table s trace new.machine new.table → (child : ℕ) (pair : Pair) → pair_at new.table.pairs child ≡ Some pair → Way meaning given s old new child pair
   ike_pair view s trace seen sound sound_table (inl is) child pair there =
       elim (pair_way facts meaning old.entries view old.machine old.table is.stepped new.machine new.table sound_table sound is.steps child pair there) [
         | inl stood ↦ inl (record {
@@ -142,7 +146,9 @@ module _ {C : Type 0} (facts : StepFacts) (meaning : Meaning) (given : Input) (o
           fresh = came.fresh;
           is = of_message given view came.from came.octets came.fresh seen came.is;
           stepped = is.stepped;
+          output = is.output;
           made = came.made;
+          named = came.named;
           serial = came.serial;
           ike = came.ike;
           makes = came.makes;
@@ -150,7 +156,7 @@ module _ {C : Type 0} (facts : StepFacts) (meaning : Meaning) (given : Input) (o
           established = is_in new pair.ike came.makes.makes.keys came.stands;
         })
       ]
-  ike_pair view s trace seen sound sound_table (inr is) child pair there = kept meaning given old new is.machine (room_stood old new is.pairs) child pair there
+  ike_pair view s trace seen sound sound_table (inr is) child pair there = kept meaning given s old new is.machine (room_stood old new is.pairs) child pair there
 
   ike_known : (view : ike.InputView) (s : OutputView) (trace : Trace) → for_ike given ≡ Some view → IsSoundMachine old.machine old.table → IsSoundTable old.table
       → StepsIke meaning old.entries view old.machine old.table s trace new.machine new.table → (serial : ℕ) (keys : KeyRecord) → IsEstablishedWith new serial keys
@@ -193,10 +199,10 @@ pub passage_goes : {C : Type 0} (meaning_of : C → Meaning) (p : Passage C) (is
 passage_goes {C} meaning_of p is = goes (meaning_of p.before.caller) p.before p.after p.said is.steps.trace p.given is.steps.traces.does
 
 pub way_of : {C : Type 0} (facts : StepFacts) (meaning_of : C → Meaning) (p : Passage C) → IsPassage meaning_of p → (child : ℕ) (pair : Pair) → pair_at p.after.table.pairs child ≡ Some pair
-    → Way (meaning_of p.before.caller) p.given p.before p.after child pair
+    → Way (meaning_of p.before.caller) p.given p.said p.before p.after child pair
 way_of {C} facts meaning_of p is child pair there = elim (passage_goes meaning_of p is) [
   | inl at ↦ ike_pair facts (meaning_of p.before.caller) p.given p.before p.after at.view p.said is.steps.trace at.seen is.sound.machine is.sound.table at.steps child pair there
-  | inr at ↦ kept (meaning_of p.before.caller) p.given p.before p.after at.machine at.stood child pair there
+  | inr at ↦ kept (meaning_of p.before.caller) p.given p.said p.before p.after at.machine at.stood child pair there
 ]
 
 known_of : {C : Type 0} (facts : StepFacts) (meaning_of : C → Meaning) (p : Passage C) → IsPassage meaning_of p → (serial : ℕ) (keys : KeyRecord) → IsEstablishedWith p.after serial keys
@@ -295,12 +301,22 @@ module _ {C : Type 0} (facts : StepFacts) (meaning_of : C → Meaning) (old new 
       ]
 
   abbrev IsMadeFor : ℕ → ℕ → KeyRecord → Pair → Type 0
-  IsMadeFor k child keys pair = WasThere ps child pair ⊎ WasMadeBefore meaning_of ps k child keys pair
+  IsMadeFor k child keys pair = WasThere ps k child keys pair ⊎ WasMadeBefore meaning_of ps k child keys pair
 
-  made_longer : (k child : ℕ) (keys : KeyRecord) (was pair : Pair) → KeepsItself was pair → IsMadeFor k child keys was → IsMadeFor (suc k) child keys pair
-  made_longer k child keys was pair same (inl stood) =
-      inl (record { first = stood.first; there = stood.there; was = stood.was; stood = stood.stood; same = both_same stood.was was pair stood.same same })
-  made_longer k child keys was pair same (inr made) =
+  since_as : (from k : ℕ) (keys : KeyRecord) (was pair : Pair) → KeepsItself was pair → IsEstablishedWith (at (suc k)) pair.ike keys → StoodFrom ps from k was.ike keys → StoodFrom ps from (suc k) pair.ike keys
+  since_as from k keys was pair same now stood = stood_longer from k pair.ike keys now (subst (λ n. StoodFrom ps from k n keys) (sym same.ike) stood)
+
+  made_longer : (k child : ℕ) (keys : KeyRecord) (was pair : Pair) → KeepsItself was pair → IsEstablishedWith (at (suc k)) pair.ike keys → IsMadeFor k child keys was → IsMadeFor (suc k) child keys pair
+  made_longer k child keys was pair same now (inl stood) =
+      inl (record {
+        first = stood.first;
+        there = stood.there;
+        was = stood.was;
+        stood = stood.stood;
+        same = both_same stood.was was pair stood.same same;
+        since = since_as 0 k keys was pair same now stood.since;
+      })
+  made_longer k child keys was pair same now (inr made) =
       let m = made.makes in
       inr (record {
         by = made.by;
@@ -313,13 +329,16 @@ module _ {C : Type 0} (facts : StepFacts) (meaning_of : C → Meaning) (old new 
           fresh = m.fresh;
           given = m.given;
           stepped = m.stepped;
+          output = m.output;
           made = m.made;
+          named = m.named;
           serial = m.serial;
           ike = m.ike ∙ sym same.ike;
           makes = m.makes;
           under = m.under;
           same = both_same m.makes.makes.pair was pair m.same same;
         };
+        since = since_as (suc made.by) k keys was pair same now made.since;
       })
 
   -- a pair before a step, with what its IKE SA is established under and what made it
@@ -337,7 +356,14 @@ module _ {C : Type 0} (facts : StepFacts) (meaning_of : C → Meaning) (old new 
       record {
         keys = now.keys;
         established = subst (λ (s : State C). IsEstablishedWith s pair.ike now.keys) (sym (at_zero old ps)) now.established;
-        made = inl (record { first = e.passage; there = e.there; was = pair; stood = ap (λ (s : State C). pair_at s.table.pairs child) here.before ∙ there; same = itself pair });
+        made = inl (record {
+          first = e.passage;
+          there = e.there;
+          was = pair;
+          stood = ap (λ (s : State C). pair_at s.table.pairs child) here.before ∙ there;
+          same = itself pair;
+          since = stood_once 0 pair.ike now.keys (subst (λ (s : State C). IsEstablishedWith s pair.ike now.keys) (sym (at_zero old ps)) now.established);
+        });
       }
   right_at all (suc k) child pair less there =
       let e = exists ps k (omega (arith, less)) in
@@ -347,11 +373,8 @@ module _ {C : Type 0} (facts : StepFacts) (meaning_of : C → Meaning) (old new 
             let was = right_at all k child stayed.was (omega (arith, less)) (sym (ap (λ (s : State C). pair_at s.table.pairs child) here.before) ∙ stayed.there) in
             let before : IsEstablishedWith e.passage.before pair.ike was.keys =
             subst (λ (s : State C). IsEstablishedWith s pair.ike was.keys) (sym here.before) (subst (λ n. IsEstablishedWith (at k) n was.keys) (sym stayed.same.ike) was.established) in
-            record {
-              keys = was.keys;
-              established = subst (λ (s : State C). IsEstablishedWith s pair.ike was.keys) here.after (stayed.on was.keys before);
-              made = made_longer k child was.keys stayed.was pair stayed.same was.made;
-            }
+            let after : IsEstablishedWith (at (suc k)) pair.ike was.keys = subst (λ (s : State C). IsEstablishedWith s pair.ike was.keys) here.after (stayed.on was.keys before) in
+            record { keys = was.keys; established = after; made = made_longer k child was.keys stayed.was pair stayed.same after was.made }
         | inr came ↦ record {
           keys = came.makes.makes.keys;
           established = subst (λ (s : State C). IsEstablishedWith s pair.ike came.makes.makes.keys) here.after came.established;
@@ -366,13 +389,16 @@ module _ {C : Type 0} (facts : StepFacts) (meaning_of : C → Meaning) (old new 
               fresh = came.fresh;
               given = came.is;
               stepped = came.stepped;
+              output = came.output;
               made = came.made;
+              named = came.named;
               serial = came.serial;
               ike = came.ike;
               makes = came.makes;
               under = refl;
               same = subst (λ (q : Pair). KeepsItself came.makes.makes.pair q) came.same (itself came.makes.makes.pair);
             };
+            since = stood_once (suc k) pair.ike came.makes.makes.keys (subst (λ (s : State C). IsEstablishedWith s pair.ike came.makes.makes.keys) here.after came.established);
           });
         }
       ]
@@ -486,8 +512,8 @@ only_the_known {C} facts meaning_of old new ps trail all = record {
 -- ---- from a new gateway on
 
 module _ {C : Type 0} (meaning_of : C → Meaning) (config : Config) (entries : List Entry) (start : ℕ) (caller : C) (new : State C) (ps : List (Passage C)) (trail : IsTrail meaning_of (new_gateway config entries start caller) ps new) where
-  no_pair : (child : ℕ) (pair : Pair) → WasThere ps child pair → ⊥
-  no_pair child pair is =
+  no_pair : (place child : ℕ) (keys : KeyRecord) (pair : Pair) → WasThere ps place child keys pair → ⊥
+  no_pair place child keys pair is =
       let here = at_place meaning_of (new_gateway config entries start caller) new ps 0 is.first trail is.there in
       none_some is.was
       (sym (empty_none start child) ∙ sym (ap (λ (s : State C). pair_at s.table.pairs child) (here.before ∙ at_zero (new_gateway config entries start caller) ps)) ∙ is.stood)
@@ -511,7 +537,7 @@ module _ {C : Type 0} (meaning_of : C → Meaning) (config : Config) (entries : 
       | inr proved ↦ proved
     ];
     made = elim is.made [
-      | inl was ↦ absurd (no_pair child is.pair was)
+      | inl was ↦ absurd (no_pair place child is.keys is.pair was)
       | inr made ↦ made
     ];
   }
@@ -524,6 +550,69 @@ module _ {C : Type 0} (meaning_of : C → Meaning) (config : Config) (entries : 
         accepted = λ place child number p there judges. proved_only place child p there (all.accepted place child number p there judges);
         said = λ place child p there says. proved_only place child p there (all.said place child p there says);
       }
+
+-- ---- what is sealed
+
+ike_seals : (child number : ℕ) (octets : Octets) (o : IkeOutput) → view_of_ike o ≡ output.Sealed child number octets → ⊥
+ike_seals child number octets (said.Reply message closed) is = cc
+ike_seals child number octets (said.Repeat message) is = cc
+ike_seals child number octets (said.Request serial message) is = cc
+ike_seals child number octets (said.Counted serial made closed) is = cc
+ike_seals child number octets (said.Ticked ticked) is = cc
+ike_seals child number octets said.Done is = cc
+ike_seals child number octets (said.Dropped fault) is = cc
+
+refused_seals : (why : Reason) (child number : ℕ) (octets : Octets) → output.Refused why ≡ output.Sealed child number octets → ⊥
+refused_seals why child number octets is = cc
+
+module _ {C : Type 0} (p : Passage C) (child number : ℕ) (octets : Octets) where
+  ike_no_seal : (meaning : Meaning) (view : ike.InputView) (trace : Trace) → StepsIke meaning p.before.entries view p.before.machine p.before.table p.said trace p.after.machine p.after.table → p.said ≡ output.Sealed child number octets → ⊥
+  ike_no_seal meaning view trace (inl is) says = ike_seals child number octets is.stepped.output (sym is.output ∙ says)
+  ike_no_seal meaning view trace (inr is) says = refused_seals _ child number octets (sym is.output ∙ says)
+
+  received_no_seal : (packet : Octets) (o : Outcome) (new : Database) → Receives p.before.table packet o new → view_of_outcome o ≡ output.Sealed child number octets → ⊥
+  received_no_seal packet (traffic.Up c n inner) new is says = cc
+  received_no_seal packet (traffic.Dummy c n) new is says = cc
+  received_no_seal packet (traffic.Sealed c n sealed) new is says = is
+  received_no_seal packet (traffic.Clear sealed) new is says = cc
+  received_no_seal packet traffic.Discarded new is says = cc
+  received_no_seal packet (traffic.Dropped fault) new is says = cc
+
+  admitted_no_seal : (packet : Octets) (o : Outcome) → Admits p.before.entries packet o → view_of_outcome o ≡ output.Sealed child number octets → ⊥
+  admitted_no_seal packet (traffic.Up c n inner) is says = is
+  admitted_no_seal packet (traffic.Dummy c n) is says = is
+  admitted_no_seal packet (traffic.Sealed c n sealed) is says = is
+  admitted_no_seal packet (traffic.Clear sealed) is says = cc
+  admitted_no_seal packet traffic.Discarded is says = cc
+  admitted_no_seal packet (traffic.Dropped fault) is says = cc
+
+  sends_it : (packet : Octets) (o : Outcome) → Sends p.before.table p.before.entries packet o p.after.table → view_of_outcome o ≡ output.Sealed child number octets
+      → IsProtected p.before.table p.before.entries packet (traffic.Sealed child number octets) p.after.table
+  sends_it packet (traffic.Up c n inner) is says = absurd is
+  sends_it packet (traffic.Dummy c n) is says = absurd is
+  sends_it packet (traffic.Sealed c n sealed) is says =
+      let same : traffic.Sealed c n sealed ≡ traffic.Sealed child number octets = cc in
+      subst (λ (o : Outcome). IsProtected p.before.table p.before.entries packet o p.after.table) same is
+  sends_it packet (traffic.Clear sealed) is says = absurd cc
+  sends_it packet traffic.Discarded is says = absurd cc
+  sends_it packet (traffic.Dropped fault) is says = absurd cc
+
+  seals : (meaning : Meaning) (given : Input) (trace : Trace) → DoesInput meaning p.before.entries given p.before.machine p.before.table p.said trace p.after.machine p.after.table → p.given ≡ given → p.said ≡ output.Sealed child number octets
+      → SealsWhatIsProtected child number octets p
+  seals meaning (input.Ike from message fresh) trace is given says = absurd (ike_no_seal meaning (ike.Message from message fresh) trace is says)
+  seals meaning (input.Start serial entry fresh) trace is given says = absurd (ike_no_seal meaning (ike.Start serial entry fresh) trace is says)
+  seals meaning (input.Probe serial fresh) trace is given says = absurd (ike_no_seal meaning (ike.Order (orders.Probe serial) fresh) trace is says)
+  seals meaning (input.DeleteChild serial fresh) trace is given says = absurd (ike_no_seal meaning (ike.Order (orders.DeleteChild serial) fresh) trace is says)
+  seals meaning (input.DeleteIke serial fresh) trace is given says = absurd (ike_no_seal meaning (ike.Order (orders.DeleteIke serial) fresh) trace is says)
+  seals meaning (input.Secret secret) trace is given says = absurd (ike_no_seal meaning (ike.Secret secret) trace is says)
+  seals meaning (input.Tick moment) trace is given says = absurd (ike_no_seal meaning (ike.Tick moment) trace is says)
+  seals meaning (input.Esp packet) trace is given says = absurd (received_no_seal packet is.1.outcome p.after.table is.1.receives (sym is.1.output ∙ says))
+  seals meaning (input.Outward packet) trace (both0, inl sends) given says = record { packet = packet; given = given; protects = sends_it packet sends.outcome sends.sends (sym sends.output ∙ says) }
+  seals meaning (input.Outward packet) trace (both0, inr lacks) given says = absurd (refused_seals _ child number octets (sym lacks.output ∙ says))
+  seals meaning (input.Inward packet) trace is given says = absurd (admitted_no_seal packet is.1.outcome is.1.admits (sym is.1.output ∙ says))
+
+pub sealed_is_protected : {C : Type 0} (meaning_of : C → Meaning) (p : Passage C) (child number : ℕ) (octets : Octets) → IsPassage meaning_of p → p.said ≡ output.Sealed child number octets → SealsWhatIsProtected child number octets p
+sealed_is_protected {C} meaning_of p child number octets is says = seals p child number octets (meaning_of p.before.caller) p.given is.steps.trace is.steps.traces.does refl says
 
 -- ---- settings
 

@@ -14,7 +14,7 @@ use Rattle.gateway.specs.Outputs.{OutputView}
 use Rattle.gateway.specs.States.{State}
 use Rattle.gateway.specs.Steps.{DoesInput, StepsIke}
 use Rattle.ike.specs.declared.output.Trace.{Trace}
-use Rattle.laws_authenticated.specs.Strangers.{AddsAtMostAHalfOpen, ChangesAtMostOneWaiting, ChangesOneWaiting, HoldsOneMore, IsAsItWas, IsStrange, OpensUnderKeysHeld}
+use Rattle.laws_authenticated.specs.Strangers.{AddsAtMostAHalfOpen, ChangesAtMostOneWaiting, ChangesOneWaiting, CountsForOne, HoldsOneMore, IsAsItWas, IsStrange}
 use Rattle.laws_authenticated.proofs.StrangerLemmas.{initial_adds, keyless_changes, packet_still, strange_still, Adds, ChangesOneHeld, OneSpelling, StrangerFacts}
 
 as_before : (d : Database) → IsAsBefore d d
@@ -40,7 +40,7 @@ module _ {C : Type 0} (old new : State C) where
   strange_does facts meaning (input.Ike from octets fresh) s trace kept strange is = strange_ike facts meaning from octets fresh s trace kept strange is
   strange_does facts meaning (input.Esp octets) s trace kept strange is = as_it_was kept is.0.machine (table_as (packet_still old.table octets is.1.outcome new.table strange is.1.receives))
   strange_does facts meaning (input.Outward packet) s trace kept strange is = absurd strange
-  strange_does facts meaning (input.Inward packet) s trace kept strange is = absurd strange
+  strange_does facts meaning (input.Inward packet) s trace kept strange is = as_it_was kept is.0.machine (table_as is.2)
   strange_does facts meaning (input.Start serial entry fresh) s trace kept strange is = absurd strange
   strange_does facts meaning (input.Probe serial fresh) s trace kept strange is = absurd strange
   strange_does facts meaning (input.DeleteChild serial fresh) s trace kept strange is = absurd strange
@@ -66,29 +66,27 @@ module _ {C : Type 0} (old new : State C) where
   first_ike one meaning from octets fresh s trace kept initial (inr is) = record { content = kept; machine = inl is.machine; table = is.pairs }
 
 module _ {C : Type 0} (old new : State C) where
-  one_waiting : new.machine ≡ record old.machine { held = new.machine.held } → (new.machine ≡ old.machine) ⊎ ChangesOneHeld old.machine.held new.machine.held
-      → (new.machine ≡ old.machine) ⊎ ChangesOneWaiting old.machine new.machine
-  one_waiting rest (inl same) = inl same
-  one_waiting rest (inr one) = inr (record {
-    place = one.place;
-    was = one.was;
-    there = one.there;
-    waits = one.waits;
+  one_waiting : (octets : Octets) → new.machine ≡ record old.machine { held = new.machine.held } → (new.machine ≡ old.machine) ⊎ ChangesOneHeld octets old.machine.held new.machine.held
+      → (new.machine ≡ old.machine) ⊎ ChangesOneWaiting octets old.machine new.machine
+  one_waiting octets rest (inl same) = inl same
+  one_waiting octets rest (inr one) = inr (record {
+    awaited = one.awaited;
     is = one.is;
-    serial = one.serial;
+    identity = one.identity;
+    phase = one.phase;
     content = rest ∙ ap (λ (h : Held). record old.machine { held = h }) one.content;
   })
 
   keyless_ike : (facts : StrangerFacts) (meaning : Meaning) (from octets : Octets) (fresh : Fresh) (s : OutputView) (trace : Trace)
-      → new ≡ record old { machine = new.machine; table = new.table } → (OpensUnderKeysHeld meaning.plain_of old.machine.held octets → ⊥) → (IsInitialRequest octets → ⊥)
-      → StepsIke meaning old.entries (ike.Message from octets fresh) old.machine old.table s trace new.machine new.table → ChangesAtMostOneWaiting old new
+      → new ≡ record old { machine = new.machine; table = new.table } → (CountsForOne meaning.plain_of old.machine.held octets → ⊥) → (IsInitialRequest octets → ⊥)
+      → StepsIke meaning old.entries (ike.Message from octets fresh) old.machine old.table s trace new.machine new.table → ChangesAtMostOneWaiting octets old new
   keyless_ike facts meaning from octets fresh s trace kept sealed first (inl is) =
       let changes = keyless_changes facts meaning old.entries from octets fresh old.machine old.table is.stepped new.machine new.table sealed first is.steps in
-      record { content = kept; machine = one_waiting is.steps.0 changes.0; table = table_as old new changes.1 }
+      record { content = kept; machine = one_waiting octets is.steps.0 changes.0; table = table_as old new changes.1 }
   keyless_ike facts meaning from octets fresh s trace kept sealed first (inr is) = record { content = kept; machine = inl is.machine; table = is.pairs }
 
 pub keyless_change : {C : Type 0} (facts : StrangerFacts) (meaning_of : C → Meaning) (from octets : Octets) (fresh : Fresh) (p : Passage C) → IsPassage meaning_of p → p.given ≡ input.Ike from octets fresh
-    → (OpensUnderKeysHeld (meaning_of p.before.caller).plain_of p.before.machine.held octets → ⊥) → (IsInitialRequest octets → ⊥) → ChangesAtMostOneWaiting p.before p.after
+    → (CountsForOne (meaning_of p.before.caller).plain_of p.before.machine.held octets → ⊥) → (IsInitialRequest octets → ⊥) → ChangesAtMostOneWaiting octets p.before p.after
 keyless_change {C} facts meaning_of from octets fresh p is given sealed first =
     keyless_ike p.before p.after facts (meaning_of p.before.caller) from octets fresh p.said is.steps.trace is.steps.traces.kept sealed first
     (subst (λ (i : Input). DoesInput (meaning_of p.before.caller) p.before.entries i p.before.machine p.before.table p.said is.steps.trace p.after.machine p.after.table) given is.steps.traces.does)

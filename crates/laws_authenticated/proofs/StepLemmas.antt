@@ -77,6 +77,7 @@ pub record MadeNow (meaning : Meaning) (entries : List Entry) (given : InputView
   pub fresh : Fresh
   pub is : given ≡ input.Message from octets fresh
   pub made : MadeChild
+  pub named : stepped.trace.child ≡ Some made
   pub serial : made.serial ≡ child
   pub ike : made.ike ≡ pair.ike
   pub makes : MakesChildOf meaning (setup_at old entries fresh) octets old.held table stepped made new.held new_table
@@ -228,6 +229,7 @@ made_now meaning entries (input.Message from octets fresh) old table stepped new
       fresh = fresh;
       is = refl;
       made = names.made;
+      named = names.named;
       serial = names.same;
       ike = its;
       makes = makes;

@@ -6,6 +6,8 @@ use Rattle.suite.specs.declared.fresh.Fresh.{Fresh}
 use Rattle.suite.specs.declared.key_record.KeyRecord.{KeyRecord}
 use Rattle.sadb.specs.Database.{pair_at}
 use Rattle.sadb.specs.declared.pair.Pair.{Pair}
+use Rattle.traffic.specs.Outcomes as traffic
+use Rattle.traffic.specs.Sending.{IsProtected}
 use Rattle.effects.specs.Taking.{Meaning}
 use Rattle.ike.specs.Children.{MakesChildOf}
 use Rattle.ike.specs.Machines.{setup_at}
@@ -14,7 +16,7 @@ use Rattle.ike.specs.declared.output.Stepped.{Stepped}
 use Rattle.gateway.specs.Authentication.{IsEstablishedWith, ProvesItselfAt}
 use Rattle.gateway.specs.Histories.{Passage}
 use Rattle.gateway.specs.Inputs as input
-use Rattle.gateway.specs.Outputs.{OutputView, Clear, Counted, Discarded, Done, Dropped, Dummy, Refused, Repeat, Reply, Request, Sealed, Ticked, Up}
+use Rattle.gateway.specs.Outputs.{view_of_ike, OutputView, Clear, Counted, Discarded, Done, Dropped, Dummy, Refused, Repeat, Reply, Request, Sealed, Ticked, Up}
 use Rattle.gateway.specs.Packets.{JudgesOne}
 use Rattle.gateway.specs.States.{State}
 
@@ -71,7 +73,7 @@ pub record KeepsItself (was is : Pair) : Type 0 where
   pub remote : is.remote ≡ was.remote
 
 -- At this step a datagram made the Child SA, of the IKE SA that its pair names and under these keys of it:
--- out of the payloads of both messages of its exchange.
+-- out of what the datagram opened to, and of what this step answers or the IKE SA had asked for.
 pub record MakesItAt {C : Type 0} (meaning_of : C → Meaning) (passages : List (Passage C)) (place child : ℕ) (keys : KeyRecord) (pair : Pair) : Type 0 where
   pub passage : Passage C
   pub there : slice_get passages place ≡ Some passage
@@ -80,7 +82,9 @@ pub record MakesItAt {C : Type 0} (meaning_of : C → Meaning) (passages : List 
   pub fresh : Fresh
   pub given : passage.given ≡ input.Ike from octets fresh
   pub stepped : Stepped
+  pub output : passage.said ≡ view_of_ike stepped.output
   pub made : MadeChild
+  pub named : stepped.trace.child ≡ Some made
   pub serial : made.serial ≡ child
   pub ike : made.ike ≡ pair.ike
   pub makes : MakesChildOf (meaning_of passage.before.caller) (setup_at passage.before.machine passage.before.entries fresh) octets
@@ -88,19 +92,21 @@ pub record MakesItAt {C : Type 0} (meaning_of : C → Meaning) (passages : List 
   pub under : makes.makes.keys ≡ keys
   pub same : KeepsItself makes.makes.pair pair
 
--- it was made at an earlier step
+-- it was made at an earlier step, and its IKE SA has been established ever since
 pub record WasMadeBefore {C : Type 0} (meaning_of : C → Meaning) (passages : List (Passage C)) (place child : ℕ) (keys : KeyRecord) (pair : Pair) : Type 0 where
   pub by : ℕ
   pub before : by < place
   pub makes : MakesItAt meaning_of passages by child keys pair
+  pub since : StoodFrom passages (suc by) place pair.ike keys
 
--- or its pair stood before the first step
-pub record WasThere {C : Type 0} (passages : List (Passage C)) (child : ℕ) (pair : Pair) : Type 0 where
+-- or its pair stood before the first step, and its IKE SA has been established ever since
+pub record WasThere {C : Type 0} (passages : List (Passage C)) (place child : ℕ) (keys : KeyRecord) (pair : Pair) : Type 0 where
   pub first : Passage C
   pub there : slice_get passages 0 ≡ Some first
   pub was : Pair
   pub stood : pair_at first.before.table.pairs child ≡ Some was
   pub same : KeepsItself was pair
+  pub since : StoodFrom passages 0 place pair.ike keys
 
 -- ---- for whom packets are carried
 
@@ -117,7 +123,7 @@ pub record IsOfAPeer {C : Type 0} (Known : ℕ → KeyRecord → Type 0) (Made :
 -- known and made at a step of this list, or before it
 abbrev pub IsOfAKnownPeer : {C : Type 0} → (C → Meaning) → List (Passage C) → ℕ → ℕ → Passage C → Type 0
 IsOfAKnownPeer {C} meaning_of passages place child p =
-    IsOfAPeer (IsKnownAt meaning_of passages place) (λ keys pair. WasThere passages child pair ⊎ WasMadeBefore meaning_of passages place child keys pair) child p
+    IsOfAPeer (IsKnownAt meaning_of passages place) (λ keys pair. WasThere passages place child keys pair ⊎ WasMadeBefore meaning_of passages place child keys pair) child p
 
 -- known and made at a step of this list
 abbrev pub IsOfAProvedPeer : {C : Type 0} → (C → Meaning) → List (Passage C) → ℕ → ℕ → Passage C → Type 0
@@ -142,3 +148,10 @@ pub record KeepsSettings {C : Type 0} (old : State C) (p : Passage C) : Type 0 w
   pub config : p.before.machine.config ≡ old.machine.config
   pub entries : p.before.entries ≡ old.entries
   pub caller : p.before.caller ≡ old.caller
+
+-- A packet is sealed only for one that was given to go out, and that the policy protects: the whole of it,
+-- by a pair that stood before the step, is Live, and whose selectors hold its flow.
+pub record SealsWhatIsProtected {C : Type 0} (child number : ℕ) (octets : Octets) (p : Passage C) : Type 0 where
+  pub packet : Octets
+  pub given : p.given ≡ input.Outward packet
+  pub protects : IsProtected p.before.table p.before.entries packet (traffic.Sealed child number octets) p.after.table

@@ -8,14 +8,15 @@ ghost use Rattle.effects.specs.Taking.{Meaning};
 ghost use Rattle.ike.specs.Receiving.{IsInitialRequest};
 ghost use Rattle.gateway.specs.Histories.{IsHistory, IsPassage, Passage};
 ghost use Rattle.gateway.specs.Inputs.{Event, Ike, Input};
+ghost use Rattle.gateway.specs.Outputs.{Sealed};
 ghost use Rattle.gateway.specs.WorldHistories.{Happening, IsWorldHistory, passages_at};
 ghost use Rattle.gateway.specs.Worlds.{WorldState, gateway_at};
 ghost use Rattle.gateway.specs.declared.world.stored.End.{End};
 ghost use Rattle.gateway.specs.States.{State, new_gateway};
 ghost use Rattle.gateway.specs.declared.output.Output.{Output};
-ghost use Rattle.laws_authenticated.specs.Carrying.{EachPairIsOfAnEstablished, KeepsSettings, OnlyTheKnownCarry, OnlyTheProvedCarry};
+ghost use Rattle.laws_authenticated.specs.Carrying.{EachPairIsOfAnEstablished, KeepsSettings, OnlyTheKnownCarry, OnlyTheProvedCarry, SealsWhatIsProtected};
 ghost use Rattle.laws_authenticated.specs.Inside.{LiesInside};
-ghost use Rattle.laws_authenticated.specs.Strangers.{AddsAtMostAHalfOpen, ChangesAtMostOneWaiting, IsAsItWas, IsStrange, OpensUnderKeysHeld};
+ghost use Rattle.laws_authenticated.specs.Strangers.{AddsAtMostAHalfOpen, ChangesAtMostOneWaiting, CountsForOne, IsAsItWas, IsStrange};
 
 use association::laws::receptions_say_why;
 use effects::laws::associations_stay_themselves;
@@ -28,8 +29,9 @@ use moments::laws::{pairs_go_with_their_associations, some_are_held_on, what_is_
 use wire::laws::octets_spell_one_message;
 
 /// Each SA pair in the table belongs to an IKE SA that is held and established (RFC 4301, section 4.4.2):
-/// in a new gateway, which has no pair, and after every step of a gateway of which it held before. An IKE
-/// SA that is closed, by its peer, by a command or by a tick, takes its pairs along.
+/// in a new gateway, which has no pair, and after every step of a gateway of which it held before. So where
+/// an IKE SA is closed, by a message of its peer or by a tick, its pairs go. While a command to delete it
+/// waits for its answer they stand.
 pub fn pairs_belong_to_the_established<C>()
     ensures begun { (config : Config) (entries : List Entry) (start : ℕ) (caller : C)
         → EachPairIsOfAnEstablished (new_gateway config entries start caller) }
@@ -53,11 +55,12 @@ pub fn pairs_belong_to_the_established<C>()
 ///   has been established ever since. *Proved itself* means by a datagram that opened under its keys, to what
 ///   the caller's check accepts of the configured identity.
 /// - The Child SA was there before the list; or at an earlier step a datagram made it, of that IKE SA and
-///   under the same keys of it, out of the payloads of its exchange.
+///   under the same keys of it. Ever since the IKE SA has been established.
 ///
-/// It asks that each pair is of an established IKE SA before the list, as in a new gateway, and leaves it so:
-/// calls in a row keep it (`known`). Of a new gateway both were steps of the list (`proved`). Configuration,
-/// policy and provider are those of the beginning throughout (`settings`).
+/// It asks that each pair is of an established IKE SA before the list, as in a new gateway, and leaves it
+/// so: calls in a row keep it (`known`). Of a new gateway both were steps of the list (`proved`).
+/// Configuration, policy and provider are those of the beginning before each step (`settings`). A packet is
+/// sealed only for one that was given to go out and that the policy protects (`sealed`).
 pub fn only_the_authenticated_carry<C>()
     ensures known { (meaning_of : C → Meaning) (inputs : List Input) (outputs : List Output) (old new : State C)
         (passages : List (Passage C))
@@ -73,6 +76,10 @@ pub fn only_the_authenticated_carry<C>()
         → IsHistory meaning_of inputs outputs old new passages
         → slice_get passages place ≡ Some p
         → KeepsSettings old p }
+    ensures sealed { (meaning_of : C → Meaning) (p : Passage C) (child number : ℕ) (octets : Octets)
+        → IsPassage meaning_of p
+        → p.said ≡ Sealed child number octets
+        → SealsWhatIsProtected child number octets p }
 {
     steps_keep_their_laws();
     children_are_made_of_their_messages();
@@ -102,14 +109,12 @@ pub fn at_each_end_only_the_authenticated_carry<C>()
     only_the_authenticated_carry::<C>();
 }
 
-/// All that is asked for and made lies inside the policy (RFC 4301, section 4.4.1; RFC 7296, section 2.9):
-/// of each SA pair what is remote to this end lies inside the remote side of one entry that protects, and
-/// what is local inside its local side. That is the entry that the peer's offer was narrowed to, or the one
-/// that a command named. So it is of each Child SA that an IKE SA still waits for.
+/// Each SA pair, and each Child SA that an IKE SA waits for, lies inside the policy (RFC 4301, section
+/// 4.4.1; RFC 7296, section 2.9): what is remote to this end lies inside the remote side of an entry that
+/// protects, and what is local inside the local side of the same one.
 ///
 /// So it is in a new gateway, and after every step of one of which it held before (`begun`, `stepped`):
-/// before each step of a list and after it (`kept`). With what `run` promises of deliveries, a payload that
-/// is delivered lies inside such an entry too.
+/// before each step of a list and after it (`kept`).
 pub fn children_lie_inside_the_policy<C>()
     ensures begun { (config : Config) (entries : List Entry) (start : ℕ) (caller : C)
         → LiesInside (new_gateway config entries start caller) }
@@ -132,15 +137,18 @@ pub fn children_lie_inside_the_policy<C>()
     some_are_held_on();
 }
 
-/// Who has no keys changes nothing of a gateway, but for IKE SAs that are just beginning (RFC 7296,
-/// sections 1.2 and 2.6; RFC 4303, section 3.4.4).
+/// What passes no check changes nothing of a gateway, but for IKE SAs that are just beginning (RFC 7296,
+/// sections 1.2, 2.1 and 2.6; RFC 4303, section 3.4).
 ///
-/// - A datagram that opens under no keys held here, and is neither a request of IKE_SA_INIT nor for an IKE
-///   SA that waits for the response to its own, leaves the gateway as it was, but for the table's spare
-///   capacity; so does a packet that passes no check (`strange`).
+/// - A datagram of IKE *counts* where it opens under the keys of the peer of the IKE SA that it is for, as
+///   a new request in its window or as the response that a request waits for. One that counts for none,
+///   begins no IKE SA and answers no first request of this end leaves the gateway as it was, but for the
+///   table's spare capacity: a forged one, a changed one, a repeat, a reflection. So does an ESP packet
+///   that no pair accepts, and what comes in unprotected (`strange`).
 /// - A request of IKE_SA_INIT makes one half-open IKE SA at most, and changes nothing else (`first`).
-/// - Any other datagram that opens under no keys changes one IKE SA at most that waits for the response to
-///   IKE_SA_INIT, and nothing else (`answer`): whoever sees its request can answer it.
+/// - Any other datagram that counts for none changes at most the IKE SA that it is for, which waits for the
+///   response to its own IKE_SA_INIT, and then waits still: whoever sees that request can answer it
+///   (`answer`).
 pub fn strangers_change_nothing<C>()
     ensures strange { (meaning_of : C → Meaning) (p : Passage C) → IsPassage meaning_of p
         → IsStrange (meaning_of p.before.caller) p.before p.given
@@ -153,9 +161,9 @@ pub fn strangers_change_nothing<C>()
     ensures answer { (meaning_of : C → Meaning) (from octets : Octets) (fresh : Fresh) (p : Passage C)
         → IsPassage meaning_of p
         → p.given ≡ Ike from octets fresh
-        → ¬ OpensUnderKeysHeld (meaning_of p.before.caller).plain_of p.before.machine.held octets
+        → ¬ CountsForOne (meaning_of p.before.caller).plain_of p.before.machine.held octets
         → ¬ IsInitialRequest octets
-        → ChangesAtMostOneWaiting p.before p.after }
+        → ChangesAtMostOneWaiting octets p.before p.after }
 {
     receptions_say_why();
     what_is_quiet_changes_nothing();

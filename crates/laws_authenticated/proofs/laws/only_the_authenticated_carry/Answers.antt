@@ -1,4 +1,4 @@
-use Rattle.laws_authenticated.proofs.CarryingLemmas.{ended, only_the_known, only_the_proved, settings_kept}
+use Rattle.laws_authenticated.proofs.CarryingLemmas.{ended, only_the_known, only_the_proved, sealed_is_protected, settings_kept}
 use Rattle.laws_authenticated.proofs.StepLemmas.{StepFacts}
 use Rattle.laws_authenticated.proofs.laws.only_the_authenticated_carry.Goals as goal
 
@@ -18,4 +18,5 @@ returns g c =
       proved = λ meaning_of config entries start caller inputs outputs new passages history.
           only_the_proved meaning_of config entries start caller new passages history.trail facts;
       settings = λ meaning_of inputs outputs old new passages place p history there. settings_kept meaning_of old new passages place p history.trail there;
+      sealed = λ meaning_of p child number octets is says. sealed_is_protected meaning_of p child number octets is says;
     }

@@ -8,6 +8,7 @@ returns g c =
     let facts : StrangerFacts = record {
       effective = c.receptions_say_why.ensures.effective;
       answering = c.receptions_say_why.ensures.answering;
+      initial = c.receptions_say_why.ensures.initial;
       quiet = c.what_is_quiet_changes_nothing.ensures;
       itself = c.associations_stay_themselves.ensures;
     } in
