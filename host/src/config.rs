@@ -25,7 +25,10 @@ pub use secret::Secret;
 pub use tun::Tun;
 
 use link::{read_address, read_peer, IPV4};
-use std::net::Ipv4Addr;
+use std::fs::{File, OpenOptions};
+use std::io::{self, Read};
+use std::net::{IpAddr, Ipv4Addr};
+use std::os::unix::fs::OpenOptionsExt;
 use std::path::Path;
 use table::{Source, Table, Value};
 use tree::Node;
@@ -42,7 +45,7 @@ pub struct Config {
 impl Config {
     /// Reads a configuration, and the secrets that it names.
     pub fn read(file: &Path) -> Result<Config, ConfigFault> {
-        let text = std::fs::read_to_string(file).map_err(|error| ConfigFault {
+        let text = text_of(file).map_err(|error| ConfigFault {
             file: file.to_path_buf(),
             line: 0,
             key: "file".to_string(),
@@ -53,6 +56,25 @@ impl Config {
         let folder = file.parent().unwrap_or(Path::new("."));
         read_config(parse(source)?, folder)
     }
+}
+
+/// Opens a file without waiting for anybody, as opening a FIFO would. What kind of file it
+/// is, is judged when it is open, so that no other one can take its place between.
+fn open_at_once(path: &Path) -> io::Result<File> {
+    OpenOptions::new()
+        .read(true)
+        .custom_flags(libc::O_NONBLOCK)
+        .open(path)
+}
+
+fn text_of(path: &Path) -> io::Result<String> {
+    let mut file = open_at_once(path)?;
+    if !file.metadata()?.is_file() {
+        return Err(io::Error::other("what is no plain file"));
+    }
+    let mut text = String::new();
+    file.read_to_string(&mut text)?;
+    Ok(text)
 }
 
 /// The tree of the text.
@@ -84,6 +106,10 @@ fn read_config(mut table: Table<'_>, folder: &Path) -> Result<Config, ConfigFaul
     }
     if peers.is_empty() {
         return Err(local_value.fault_found("one table [[peers]] at least", "none"));
+    }
+    // When all are known: a route may meet what stands before and what stands behind it.
+    for (place, value) in list.iter().enumerate() {
+        refuse_routes(value, local, &peers, place)?;
     }
     Ok(Config { local, peers })
 }
@@ -123,4 +149,47 @@ fn refuse_same(
         }
         _ => Ok(()),
     }
+}
+
+/// A route that holds an outer address would lead the tunnel's own packets into the tunnel.
+/// The kernel takes each route once.
+fn refuse_routes(
+    value: &Value<'_>,
+    local: Ipv4Addr,
+    peers: &[PeerConfig],
+    place: usize,
+) -> Result<(), ConfigFault> {
+    let routes = |peer: &PeerConfig| peer.tun.iter().flat_map(|tun| tun.routes.clone()).collect();
+    let own: Vec<Prefix> = routes(&peers[place]);
+    for (number, route) in own.iter().enumerate() {
+        let Prefix { address, length } = route;
+        let fault = |expected: &str, found: String| {
+            let at = route_at(value, number).unwrap_or_else(|| value.clone());
+            Err(at.fault_found(expected, format!("\"{address}/{length}\"{found}")))
+        };
+        let outside = [local]
+            .into_iter()
+            .chain(peers.iter().map(|peer| peer.address));
+        let held = outside.map(IpAddr::V4).find(|outer| route.holds(*outer));
+        if let Some(outer) = held {
+            let expected = "a network without the outer address of a peer or of this end";
+            return fault(expected, format!(", which holds {outer}"));
+        }
+        if own[..number].contains(route) {
+            return fault("each network once", ", again".to_string());
+        }
+        let mut before = peers[..place].iter();
+        if let Some(other) = before.find(|other| routes(other).contains(route)) {
+            let found = format!(", which peer {} has", other.name);
+            return fault("a network of no other interface", found);
+        }
+    }
+    Ok(())
+}
+
+/// A route of a peer's interface, as it stands in the text.
+fn route_at<'a>(peer: &Value<'a>, number: usize) -> Option<Value<'a>> {
+    let tun = peer.table("a table").ok()?.optional("tun")?;
+    let routes = tun.table("a table").ok()?.optional("routes")?;
+    routes.list("a list").ok()?.into_iter().nth(number)
 }

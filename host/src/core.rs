@@ -15,15 +15,16 @@ use std::net::Ipv4Addr;
 use std::ops::Range;
 use zeroize::Zeroizing;
 
-/// The random octets that an input of IKE takes, never used twice.
-pub struct Fresh(Zeroizing<[u8; Fresh::OCTETS]>);
+/// The random octets that an input of IKE takes, never used twice. They are boxed, so that
+/// no move leaves a copy, and wiped when they are dropped.
+pub struct Fresh(Box<Zeroizing<[u8; Fresh::OCTETS]>>);
 
 impl Fresh {
     /// An SPI of 8, a nonce of 32, a secret of 32, and 16 for sealing.
     pub const OCTETS: usize = 88;
 
     /// Of octets that were just drawn.
-    pub fn new(octets: Zeroizing<[u8; Fresh::OCTETS]>) -> Fresh {
+    pub fn new(octets: Box<Zeroizing<[u8; Fresh::OCTETS]>>) -> Fresh {
         Fresh(octets)
     }
 

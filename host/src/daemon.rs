@@ -137,6 +137,11 @@ impl<C: Core> Daemon<C> {
         if ready.reload && !self.leaving {
             self.reload(system)?;
         }
+        for key in &ready.gone {
+            if let Some(site) = self.sites.iter_mut().find(|site| site.key() == *key) {
+                site.take_gone(&mut Around::new(system, &mut self.shared));
+            }
+        }
         self.tell_time(system)?;
         if ready.ike {
             self.take_ike(system)?;
@@ -171,6 +176,7 @@ impl<C: Core> Daemon<C> {
     }
 
     fn tell_time<S: System>(&mut self, system: &mut S) -> Result<(), Stop> {
+        Around::new(system, &mut self.shared).heed_paths();
         for site in &mut self.sites {
             site.take_moment(&mut Around::new(system, &mut self.shared))?;
         }

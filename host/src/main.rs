@@ -2,6 +2,7 @@
 #![forbid(unsafe_code)]
 
 use clap::{Parser, Subcommand};
+use std::io::{self, Write};
 use std::path::{Path, PathBuf};
 use std::process::ExitCode;
 use sukperind::config::{Config, PeerConfig};
@@ -87,11 +88,24 @@ fn run(file: &Path, _: &Path) -> Result<(), String> {
 
 fn check(file: &Path) -> Result<(), String> {
     let config = Config::read(file).map_err(|fault| fault.to_string())?;
-    println!("{}: good", file.display());
+    let mut lines = format!("{}: good\n", file.display());
     for peer in &config.peers {
-        println!("{}", line_of(&config, peer));
+        lines += &line_of(&config, peer);
+        lines.push('\n');
     }
-    Ok(())
+    print_all(&lines)
+}
+
+/// Prints to standard output. Who reads no more of it, as `head` does, has enough.
+fn print_all(text: &str) -> Result<(), String> {
+    let mut output = io::stdout().lock();
+    let printed = output.write_all(text.as_bytes());
+    match printed.and_then(|()| output.flush()) {
+        Err(error) if error.kind() != io::ErrorKind::BrokenPipe => {
+            Err(format!("standard output: {error}"))
+        }
+        _ => Ok(()),
+    }
 }
 
 fn line_of(config: &Config, peer: &PeerConfig) -> String {
@@ -116,10 +130,8 @@ fn status(socket: &Path, as_json: bool) -> Result<(), String> {
     let fault = |error: &dyn std::fmt::Display| format!("{}: {error}", socket.display());
     let json = ask_status(socket).map_err(|error| fault(&error))?;
     if as_json {
-        print!("{json}");
-        return Ok(());
+        return print_all(&json);
     }
     let status = Status::of_json(&json).map_err(|error| fault(&error))?;
-    print!("{status}");
-    Ok(())
+    print_all(&status.to_string())
 }

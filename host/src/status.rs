@@ -122,7 +122,7 @@ pub struct Child {
     pub last_sent: u64,
     /// The greatest number taken.
     pub greatest_taken: u64,
-    /// Packets, and the octets in them.
+    /// Packets that the system took to send, or that were opened, and the octets in them.
     pub packets_out: u64,
     /// See `packets_out`.
     pub packets_in: u64,
@@ -143,11 +143,11 @@ pub struct Counters {
     pub ike_out: u64,
     /// First requests that came too often, and weren't let in.
     pub first_requests_limited: u64,
-    /// ESP packets that were opened, and that went out.
+    /// ESP packets that were opened, and those that the system took to send.
     pub esp_in: u64,
     /// See `esp_in`.
     pub esp_out: u64,
-    /// The octets in them.
+    /// The octets of the packets in them.
     pub octets_in: u64,
     /// See `octets_in`.
     pub octets_out: u64,
@@ -169,8 +169,12 @@ pub struct Counters {
     pub unsent_ike: u64,
     /// ESP packets that the system didn't send.
     pub unsent_esp: u64,
-    /// Packets that the interface didn't take.
+    /// Packets that the interface didn't take, or that came while there was none.
     pub unwritten: u64,
+    /// Errors of reading the interface.
+    pub unread: u64,
+    /// Packets going out for which there was no gateway.
+    pub uncarried: u64,
     /// How often the interface went.
     pub interfaces_gone: u64,
 }
@@ -340,6 +344,8 @@ impl PeerStatus {
             (counters.unsent_ike, "IKE not sent"),
             (counters.unsent_esp, "packets not sent"),
             (counters.unwritten, "packets that the interface didn't take"),
+            (counters.unread, "errors of reading the interface"),
+            (counters.uncarried, "packets without a gateway"),
             (counters.interfaces_gone, "times the interface went"),
         ] {
             if count > 0 {

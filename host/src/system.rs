@@ -9,6 +9,7 @@ mod batch;
 mod calls;
 mod control;
 mod interface;
+mod links;
 pub mod linux;
 mod notify;
 
@@ -52,6 +53,8 @@ pub struct Ready {
     pub esp: bool,
     /// Packets may be there on these sites' interfaces.
     pub inside: Vec<SiteKey>,
+    /// These sites' interfaces were set down or deleted: what led to them is gone.
+    pub gone: Vec<SiteKey>,
     /// Somebody asks for the status.
     pub status: bool,
 }
@@ -92,6 +95,10 @@ pub trait System {
 
     /// The MTU of the path to an address, in octets, as far as the kernel knows it.
     fn path_mtu(&mut self, to: Ipv4Addr) -> io::Result<u16>;
+
+    /// Whether the kernel is to refuse ESP packets that are longer than what it knows of their
+    /// path, or only those that are too long for the first link. None is cut either way.
+    fn heed_path_mtu(&mut self, heeds: bool) -> io::Result<()>;
 
     /// Makes a site's interface, and tells the offloads that the kernel agreed to.
     fn open_inside(&mut self, site: SiteKey, tun: &Tun) -> io::Result<Offloads>;

@@ -1,9 +1,11 @@
 //! The command `sukperind check CONFIG`.
 
 use std::fs;
+use std::io::Write;
 use std::os::unix::fs::PermissionsExt;
+use std::os::unix::net::UnixListener;
 use std::path::{Path, PathBuf};
-use std::process::{Command, Output};
+use std::process::{Command, Output, Stdio};
 
 fn check(file: &Path) -> Output {
     let mut command = Command::new(env!("CARGO_BIN_EXE_sukperind"));
@@ -60,4 +62,26 @@ fn the_pages_configuration_is_good() {
 fn a_bad_command_line_has_status_2() {
     let mut command = Command::new(env!("CARGO_BIN_EXE_sukperind"));
     assert_eq!(command.output().unwrap().status.code(), Some(2));
+}
+
+/// As `sukperind status | head -n 1` does it.
+#[test]
+fn who_reads_no_more_of_the_status_has_enough() {
+    let folder = folder_with_secret("status");
+    let socket = folder.join("control");
+    let listener = UnixListener::bind(&socket).unwrap();
+    let mut command = Command::new(env!("CARGO_BIN_EXE_sukperind"));
+    let command = command.args(["status", "--json", "--socket"]).arg(&socket);
+    let pipes = command.stdout(Stdio::piped()).stderr(Stdio::piped());
+    let mut child = pipes.spawn().unwrap();
+    let (mut stream, _) = listener.accept().unwrap();
+    drop(child.stdout.take());
+    // More than a pipe takes.
+    stream.write_all(&[b'x'; 100_000]).unwrap();
+    stream.write_all(b"\n").unwrap();
+    drop(stream);
+    let output = child.wait_with_output().unwrap();
+    assert!(output.status.success(), "{output:?}");
+    assert!(output.stderr.is_empty(), "{output:?}");
+    fs::remove_dir_all(&folder).unwrap();
 }

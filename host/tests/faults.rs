@@ -4,6 +4,7 @@
 use std::fs;
 use std::os::unix::fs::PermissionsExt;
 use std::path::PathBuf;
+use std::process::Command;
 use std::sync::atomic::{AtomicU32, Ordering};
 use sukperind::config::{Config, ConfigFault};
 
@@ -182,6 +183,12 @@ faults! {
     mtu_is_too_large: "mtu = 1400" => "mtu = 1452", 39, "peers[0].tun.mtu", "from 576 to 1451";
     mtu_is_too_small: "mtu = 1400" => "mtu = 575", 39, "peers[0].tun.mtu", "from 576 to 1451";
     outer_mtu_is_too_small: "mtu = 1400" => "outer_mtu = 600", 39, "peers[0].tun.outer_mtu", "from 625 to 65535";
+    mtu_is_above_the_core_s: "mtu = 1400" => "outer_mtu = 65535\nmtu = 16385", 40, "peers[0].tun.mtu", "from 576 to 16384";
+    mtu_is_no_number: "mtu = 1400" => "mtu = \"big\"", 39, "peers[0].tun.mtu", "a whole number from 576 to 1451";
+    route_holds_the_peer: "[\"10.1.0.0/24\"]" => "[\"10.1.0.0/24\", \"192.0.2.2/31\"]", 38, "peers[0].tun.routes[1]", "a network without the outer address of a peer";
+    route_holds_this_end: "[\"10.1.0.0/24\"]" => "[\"192.0.2.1/32\"]", 38, "peers[0].tun.routes[0]", "or of this end, found \"192.0.2.1/32\", which holds 192.0.2.1";
+    route_holds_all: "[\"10.1.0.0/24\"]" => "[\"0.0.0.0/0\"]", 38, "peers[0].tun.routes[0]", "a network without the outer address of a peer";
+    route_stands_twice: "[\"10.1.0.0/24\"]" => "[\"10.1.0.0/24\", \"10.1.0.0/24\"]", 38, "peers[0].tun.routes[1]", "each network once";
     tun_key_is_unknown: "mtu = 1400" => "metric = 1", 39, "peers[0].tun.metric", "one of name, addresses";
 }
 
@@ -269,14 +276,86 @@ fn an_interface_comes_twice() {
     );
 }
 
+/// What makes the second peer another one than the first.
+const OTHER: [(&str, &str); 4] = [
+    ("\"right\"", "\"other\""),
+    ("192.0.2.2", "192.0.2.3"),
+    ("suk0", "suk1"),
+    ("10.1.0.0/24", "10.2.0.0/24"),
+];
+
 #[test]
 fn two_peers_are_good() {
-    let changes = [
-        ("\"right\"", "\"other\""),
-        ("192.0.2.2", "192.0.2.3"),
-        ("suk0", "suk1"),
-    ];
-    assert_eq!(read(&twice(&changes)).unwrap().peers.len(), 2);
+    assert_eq!(read(&twice(&OTHER)).unwrap().peers.len(), 2);
+}
+
+#[test]
+fn a_route_comes_twice() {
+    let text = twice(&OTHER[..3]);
+    let key = "peers[1].tun.routes[0]";
+    wants_text(&text, 76, key, "a network of no other interface");
+}
+
+#[test]
+fn a_route_holds_the_address_of_another_peer() {
+    let expected = "a network without the outer address of a peer";
+    // Of one that stands before.
+    let text = twice(&OTHER).replace("10.2.0.0/24", "192.0.2.2/32");
+    wants_text(&text, 76, "peers[1].tun.routes[0]", expected);
+    // Of one that stands behind.
+    let text = twice(&OTHER).replace("10.1.0.0/24", "192.0.2.3/32");
+    wants_text(&text, 38, "peers[0].tun.routes[0]", expected);
+}
+
+#[test]
+fn an_mtu_is_too_small_for_ipv6() {
+    let key = "peers[0].tun.mtu";
+    let expected = "a whole number from 1280 to 1451, since there is IPv6 inside";
+    let small = GOOD.replace("mtu = 1400", "mtu = 1279");
+    // By an address, by a route, and by an entry that protects.
+    let text = small.replace("\"10.0.0.1/24\"", "\"2001:db8::1/64\"");
+    wants_text(&text, 39, key, expected);
+    let text = small.replace("\"10.1.0.0/24\"", "\"2001:db8:1::/64\"");
+    wants_text(&text, 39, key, expected);
+    let text = small.replace("\"bypass\"", "\"protect\"");
+    wants_text(&text, 39, key, expected);
+    assert!(read(&text.replace("mtu = 1279", "mtu = 1280")).is_ok());
+    // Where the outer one alone is told, it is at fault.
+    let text = text.replace("mtu = 1279", "outer_mtu = 1328");
+    let expected = "a whole number from 1329 to 65535, since there is IPv6 inside";
+    wants_text(&text, 39, "peers[0].tun.outer_mtu", expected);
+    assert!(read(&text.replace("1328", "1329")).is_ok());
+}
+
+#[test]
+fn the_longest_inner_mtu_is_what_the_core_takes() {
+    let mtu = |text: &str| {
+        let config = read(&GOOD.replace("mtu = 1400", text)).unwrap();
+        config.peers[0].tun.as_ref().unwrap().mtu
+    };
+    assert_eq!(mtu("outer_mtu = 9000"), 8_951);
+    assert_eq!(mtu("outer_mtu = 16433"), 16_384);
+    assert_eq!(mtu("outer_mtu = 65535"), 16_384);
+    assert_eq!(mtu("outer_mtu = 65535\nmtu = 16384"), 16_384);
+    // What is bypassed doesn't go by the interface.
+    assert_eq!(mtu("mtu = 576"), 576);
+}
+
+/// Nobody writes to it: opening it would wait for ever.
+#[test]
+fn a_fifo_is_no_file() {
+    let folder = Folder::new();
+    let fifo = folder.0.join("secret");
+    let made = Command::new("mkfifo")
+        .args(["-m", "600"])
+        .arg(&fifo)
+        .status();
+    assert!(made.unwrap().success());
+    let message = Config::read(&fifo).unwrap_err().to_string();
+    assert!(message.contains("found what is no plain file"), "{message}");
+    let path = folder.write("c.toml", GOOD.as_bytes(), 0o644);
+    let message = Config::read(&path).unwrap_err().to_string();
+    assert!(message.contains("expected a plain file"), "{message}");
 }
 
 #[test]

@@ -54,7 +54,7 @@ impl Two {
         self.drawn += 1;
         let seed = self.drawn;
         let octets = std::array::from_fn(|index| seed.wrapping_mul(31).wrapping_add(index as u8));
-        Fresh::new(Zeroizing::new(octets))
+        Fresh::new(Box::new(Zeroizing::new(octets)))
     }
 }
 

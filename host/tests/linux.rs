@@ -271,6 +271,21 @@ fn all() {
     namespaces.wait_for(0, "the interface is there again", is_there);
     namespaces.probe("and carries");
 
+    // Set up again an interface lacks its routes, so it is made anew.
+    for state in ["down", "up"] {
+        let name = &namespaces.names[0];
+        ip(&format!("-n {name} link set suk0 {state}")).unwrap();
+    }
+    namespaces.wait_for(0, "an interface that was set down went", |status| {
+        !is_there(status)
+    });
+    namespaces.wait_for(0, "it is there again", is_there);
+    namespaces.probe("with its routes");
+    let gone = namespaces.status(0).unwrap().peers[0]
+        .counters
+        .interfaces_gone;
+    assert_eq!(gone, 2, "and none goes by the daemon's own doing");
+
     // The right end forgets all. Its echo goes on.
     namespaces.children[right].kill().unwrap();
     namespaces.children[right].wait().unwrap();

@@ -3,12 +3,13 @@
 mod double;
 mod simulation;
 
-use double::core::{close, take_calls, Call};
-use double::link::{config, End, Link, INSIDE_LEFT, INSIDE_RIGHT, LEFT, RIGHT};
+use double::core::{close, decline, take_calls, Call};
+use double::link::{config, read, End, Link, INSIDE_LEFT, INSIDE_RIGHT, LEFT, RIGHT};
 use double::packets::{ike_at, inner, outer, read_of};
 use double::system::Fake;
 use simulation::core::{Body, Message};
 use std::net::{Ipv4Addr, SocketAddrV4};
+use sukperind::config::Config;
 use sukperind::daemon::{Daemon, Stop};
 use sukperind::status::Status;
 use sukperind::system::Ready;
@@ -207,6 +208,11 @@ fn a_full_socket_loses_packets_and_no_more() {
     end.turn_all();
     let counters = end.status().peers[0].counters.clone();
     assert_eq!((counters.esp_out, counters.unsent_esp), (10, 54));
+    // What the kernel took is counted; numbers were spent on all.
+    let child = end.status().peers[0].children[0].clone();
+    let octets = 10 * to_right(&[0]).len() as u64;
+    assert_eq!((counters.octets_out, child.octets_out), (octets, octets));
+    assert_eq!((child.packets_out, child.last_sent), (10, 64));
     assert_eq!(end.system.logged("aren't sent"), 1);
     end.system.faults.room = None;
     end.system.faults.send = Some(libc::ENETUNREACH);
@@ -255,8 +261,89 @@ fn what_comes_while_the_interface_is_gone_is_dropped() {
     }
     link.ends[0].turn_all();
     link.settle();
-    let counters = link.ends[1].status().peers[0].counters.clone();
-    assert_eq!((counters.unwritten, counters.interfaces_gone), (1, 1));
+    let end = &mut link.ends[1];
+    let counters = end.status().peers[0].counters.clone();
+    assert_eq!((counters.unwritten, counters.interfaces_gone), (3, 1));
+    // While it can't be made, what comes is counted, and both reasons are told.
+    end.system.faults.open_inside = true;
+    link.pass(5_000);
+    let packet = read_of(&to_right(b"lost too"));
+    link.ends[0].system.inside_in.push_back(packet);
+    link.ends[0].turn_all();
+    link.settle();
+    let end = &mut link.ends[1];
+    let counters = end.status().peers[0].counters.clone();
+    assert_eq!((counters.unwritten, counters.esp_in), (4, 4));
+    assert_eq!(end.system.warned("the interface went"), 1);
+    assert_eq!(end.system.warned("interface suk1: "), 1);
+}
+
+#[test]
+fn an_interface_that_was_set_down_is_made_again() {
+    // By the kernel's word.
+    let mut link = up();
+    let end = &mut link.ends[0];
+    let down = Ready {
+        gone: end.system.inside.keys().copied().collect(),
+        ..Ready::default()
+    };
+    end.turn(&down);
+    // What it says of one that is gone already changes nothing.
+    end.turn(&down);
+    assert!(end.system.inside.is_empty());
+    assert!(end.daemon.readable().is_empty());
+    let counters = end.status().peers[0].counters.clone();
+    assert_eq!(counters.interfaces_gone, 1);
+    assert_eq!(end.system.warned("it was set down or deleted"), 1);
+    link.pass(4_999);
+    assert_eq!(link.ends[0].system.opened, 1);
+    link.pass(1);
+    assert_eq!(link.ends[0].system.opened, 2);
+    // By its not taking a packet.
+    link.ends[0].system.faults.write_inside = Some(libc::EIO);
+    let packet = read_of(&inner(INSIDE_RIGHT, INSIDE_LEFT, 0, b"lost"));
+    link.ends[1].system.inside_in.push_back(packet);
+    link.ends[1].turn_all();
+    link.settle();
+    assert!(link.ends[0].system.inside.is_empty());
+    link.ends[0].system.faults.write_inside = None;
+    link.pass(5_000);
+    assert_eq!(link.ends[0].system.opened, 3);
+}
+
+#[test]
+fn an_interface_that_cannot_be_read_is_told_once_a_minute() {
+    let mut link = up();
+    let end = &mut link.ends[0];
+    end.system.faults.read_inside = Some(libc::EIO);
+    for _ in 0..3 {
+        end.turn_all();
+    }
+    let counters = end.status().peers[0].counters.clone();
+    assert_eq!((counters.unread, counters.interfaces_gone), (3, 0));
+    assert_eq!(end.system.warned("can't be read"), 1);
+    let table = end.status().to_string();
+    assert!(
+        table.contains("3 errors of reading the interface"),
+        "{table}"
+    );
+}
+
+#[test]
+fn packets_without_a_gateway_are_counted() {
+    close(true);
+    let mut end = End::new(0, config(0, ""));
+    close(false);
+    for number in 0..3 {
+        let packet = read_of(&to_right(&[number]));
+        end.system.inside_in.push_back(packet);
+    }
+    end.turn_all();
+    let counters = end.status().peers[0].counters.clone();
+    assert_eq!((counters.uncarried, counters.octets_out), (3, 0));
+    assert_eq!(end.system.warned("no gateway to go by"), 1);
+    let table = end.status().to_string();
+    assert!(table.contains("3 packets without a gateway"), "{table}");
 }
 
 #[test]
@@ -322,7 +409,7 @@ fn without_chance_it_ends() {
 fn a_packet_too_long_for_the_path_is_answered_inside() {
     let mut link = up();
     let end = &mut link.ends[0];
-    end.system.faults.path = Some(1_300);
+    end.system.faults.path = Some(1_400);
     end.system
         .inside_in
         .push_back(read_of(&to_right(&[1; 100])));
@@ -339,7 +426,7 @@ fn a_packet_too_long_for_the_path_is_answered_inside() {
     // ICMP 'fragmentation needed', from the packet's destination, with the inner MTU.
     assert_eq!(answer[20..22], [3, 4]);
     assert_eq!(answer[12..16], INSIDE_RIGHT.octets());
-    assert_eq!(u16::from_be_bytes([answer[26], answer[27]]), 1_300 - 49);
+    assert_eq!(u16::from_be_bytes([answer[26], answer[27]]), 1_400 - 49);
     // The next one isn't even sealed.
     end.system
         .inside_in
@@ -349,7 +436,7 @@ fn a_packet_too_long_for_the_path_is_answered_inside() {
     assert_eq!(end.status().peers[0].counters.too_long, 2);
     assert_eq!(
         end.status().peers[0].interface.as_ref().unwrap().outer_mtu,
-        1_300
+        1_400
     );
     // After ten minutes the path is tried again.
     end.system.faults.path = None;
@@ -626,4 +713,231 @@ fn the_status_goes_as_json_and_prints_as_a_table() {
     ] {
         assert!(table.contains(words), "{words:?} in\n{table}");
     }
+}
+
+#[test]
+fn a_forged_path_mtu_is_not_believed() {
+    let mut link = up();
+    let end = &mut link.ends[0];
+    end.system.faults.forged = Some(552);
+    for number in 0..3 {
+        let packet = read_of(&to_right(&[number; 1_400]));
+        end.system.inside_in.push_back(packet);
+    }
+    end.turn_all();
+    assert!(!end.system.heeds);
+    let sent: usize = end.system.esp_out.iter().map(Vec::len).sum();
+    assert_eq!(sent, 3, "none is lost");
+    assert!(end.system.inside_out.is_empty(), "nobody inside is told");
+    let status = end.status();
+    assert_eq!(status.peers[0].interface.as_ref().unwrap().outer_mtu, 1_500);
+    assert_eq!(end.system.warned("MTU for 552, which isn't believed"), 1);
+    // After ten minutes the kernel is asked again, and still not believed.
+    link.pass(599_999);
+    assert!(!link.ends[0].system.heeds);
+    link.pass(1);
+    let end = &mut link.ends[0];
+    assert!(end.system.heeds);
+    let packet = read_of(&to_right(&[9; 1_400]));
+    end.system.inside_in.push_back(packet);
+    end.turn_all();
+    assert!(!end.system.heeds);
+    assert_eq!(end.status().peers[0].counters.too_long, 0);
+    // Where the first link takes no more, the inside is told the least that is believed.
+    end.system.faults.path = Some(1_000);
+    let packet = read_of(&to_right(&[9; 1_400]));
+    end.system.inside_in.push_back(packet);
+    end.turn_all();
+    let answer = &end.system.inside_out[0][10..];
+    assert_eq!(u16::from_be_bytes([answer[26], answer[27]]), 1_280);
+}
+
+#[test]
+fn a_path_mtu_is_believed_from_the_least_on() {
+    for (told, heeds) in [(1_329, true), (1_328, false)] {
+        let mut link = up();
+        let end = &mut link.ends[0];
+        end.system.faults.forged = Some(told);
+        let packet = read_of(&to_right(&[1; 1_400]));
+        end.system.inside_in.push_back(packet);
+        end.turn_all();
+        assert_eq!(end.system.heeds, heeds, "{told}");
+    }
+}
+
+#[test]
+fn answers_to_the_inside_are_limited() {
+    let mut link = up();
+    let end = &mut link.ends[0];
+    end.system.now += 60_000;
+    end.system.faults.path = Some(1_400);
+    let mut answered = Vec::new();
+    for _ in 0..3 {
+        for number in 0..150u8 {
+            let packet = read_of(&to_right(&[number; 1_400]));
+            end.system.inside_in.push_back(packet);
+        }
+        for _ in 0..3 {
+            end.turn_all();
+        }
+        answered.push(end.system.inside_out.len());
+        end.system.inside_out.clear();
+        end.system.now += 1_000;
+    }
+    assert_eq!(answered, [100, 10, 10]);
+    assert_eq!(end.status().peers[0].counters.too_long, 450);
+}
+
+/// The configuration of the left end with peers of these names, interfaces and routes.
+fn peers(list: &[(&str, &str, &str)]) -> Config {
+    let mut text = format!("local = \"{LEFT}\"\n");
+    for (place, (name, tun, net)) in list.iter().enumerate() {
+        text += &format!(
+            "[[peers]]\n\
+             name = \"{name}\"\n\
+             address = \"192.0.2.{}\"\n\
+             begins = true\n\
+             own_identity = {{ type = \"fqdn\", value = \"left.example\" }}\n\
+             peer_identity = {{ type = \"fqdn\", value = \"{name}.example\" }}\n\
+             secret_file = \"secret\"\n\
+             [[peers.entries]]\n\
+             action = \"protect\"\n\
+             local = \"10.0.0.0/24\"\n\
+             remote = \"{net}\"\n\
+             [peers.tun]\n\
+             name = \"{tun}\"\n\
+             routes = [\"{net}\"]\n",
+            place + 2
+        );
+    }
+    read(&text)
+}
+
+#[test]
+fn interfaces_and_routes_change_hands_at_once() {
+    let nets = ["10.1.0.0/24", "10.2.0.0/24"];
+    let first = peers(&[("a", "suk0", nets[0]), ("b", "suk1", nets[1])]);
+    let mut end = End::new(0, first);
+    let cases = [
+        // A peer is renamed and keeps its interface.
+        [("c", "suk0", nets[0]), ("b", "suk1", nets[1])],
+        // Two peers swap the names of their interfaces, then their routes.
+        [("c", "suk1", nets[0]), ("b", "suk0", nets[1])],
+        [("c", "suk1", nets[1]), ("b", "suk0", nets[0])],
+        // Both peers are renamed, and swap their interfaces.
+        [("d", "suk0", nets[1]), ("e", "suk1", nets[0])],
+        // Who was let go comes back at once.
+        [("c", "suk1", nets[1]), ("b", "suk0", nets[0])],
+    ];
+    for case in cases {
+        end.system.configuration = Ok(peers(&case));
+        end.turn(&Ready {
+            reload: true,
+            ..Ready::default()
+        });
+        let status = end.status();
+        for (name, tun, net) in case {
+            let mut told = status.peers.iter().rev();
+            let told = told.find(|peer| peer.name == name).unwrap();
+            let interface = told.interface.as_ref().unwrap();
+            assert!(interface.there, "{name}: {:?}", end.system.log);
+            assert_eq!(interface.name, tun);
+            let mut held = end.system.inside.values();
+            let held = held.find(|held| held.name == tun).unwrap();
+            assert_eq!(held.routes[0].address.to_string() + "/24", net);
+        }
+        assert_eq!(end.system.inside.len(), 2);
+    }
+    assert_eq!(end.system.logged("times)"), 0, "nothing went wrong");
+}
+
+/// A policy of two entries, of which both ends protect both.
+const SECOND: &str = "timers = { child_age = 60, association_age = 3600 }\n\
+    [[peers.entries]]\n\
+    action = \"protect\"\n\
+    local = \"172.16.0.0/24\"\n\
+    remote = \"172.16.0.0/24\"";
+
+#[test]
+fn what_the_peer_asks_for_takes_nothing_of_what_is_asked_for_here() {
+    let mut link = Link::with(config(0, SECOND), config(1, SECOND));
+    link.pass(59_000);
+    let status = link.ends[0].status();
+    assert_eq!(status.peers[0].carried, 2);
+    let ike = &status.peers[0].associations[0];
+    let spi = |digits: &str| u64::from_str_radix(digits, 16).unwrap();
+    let (own, other) = (spi(&ike.spi_initiator), spi(&ike.spi_responder));
+    // The left end asks for another Child SA of an entry, and the answer is on its way.
+    let mut asked = None;
+    while asked.is_none() {
+        link.settle();
+        for end in &mut link.ends {
+            end.system.now += 1;
+        }
+        link.ends[0].turn_all();
+        let sent = &link.ends[0].system.ike_out;
+        let messages = sent
+            .iter()
+            .map(|(_, message)| double::message::message_of(message));
+        asked = messages.flatten().find_map(|message| match message.body {
+            Body::Child { entry, .. } => Some(entry),
+            _ => None,
+        });
+    }
+    let asked = asked.unwrap();
+    let request = std::mem::take(&mut link.ends[0].system.ike_out);
+    // Meanwhile the peer asks for one of the other entry.
+    let message = Message {
+        from_spi: other,
+        to_spi: own,
+        number: 0,
+        body: Body::Child {
+            entry: 1 - asked,
+            spi: 77,
+        },
+    };
+    let message = double::message::octets_of(&message, false);
+    let before = status.peers[0]
+        .children
+        .iter()
+        .map(|child| child.serial)
+        .max();
+    let end = &mut link.ends[0];
+    end.system.ike_in.push_back((ike_at(RIGHT), message));
+    end.turn_all();
+    let newest = |end: &mut End| {
+        let children = end.status().peers[0].children.clone();
+        children
+            .into_iter()
+            .max_by_key(|child| child.serial)
+            .unwrap()
+    };
+    let made = newest(end);
+    assert!(Some(made.serial) > before, "the peer's was taken");
+    assert_eq!(made.entry, Some(1 - asked));
+    // The answer comes after it.
+    end.system.ike_out = request;
+    link.settle();
+    let answered = newest(&mut link.ends[0]);
+    assert!(answered.serial > made.serial);
+    assert_eq!(answered.entry, Some(asked));
+}
+
+#[test]
+fn an_ike_sa_that_was_declined_is_a_warning_once_a_minute() {
+    decline(true);
+    let mut link = Link::new();
+    link.pass(40_000);
+    let words = [
+        "the peer declined an IKE SA, or this end its proof",
+        "an IKE SA that the peer began was declined",
+    ];
+    for (end, words) in link.ends.iter_mut().zip(words) {
+        assert_eq!(end.system.warned(words), 1, "{:?}", end.system.log);
+        assert_eq!(end.system.logged("declined"), 1);
+        assert!(end.status().peers[0].counters.ike_in > 8, "again and again");
+    }
+    decline(false);
+    link.pass(60_000);
+    assert!(link.is_up());
 }

@@ -6,6 +6,8 @@
 
 use crate::ffi;
 use crate::list::Record;
+use std::ptr;
+use std::sync::atomic::{compiler_fence, Ordering};
 
 /// A handle of a gateway, freed when it is dropped.
 pub struct GatewayHandle(ffi::Gateway);
@@ -240,5 +242,41 @@ impl AssociationHandle {
 
     pub fn open(&mut self, packet: &[u8], told: &mut ffi::Opened) -> u32 {
         unsafe { ffi::suk_open(&mut self.0, packet.as_ptr(), packet.len(), told) }
+    }
+}
+
+/// Overwrites octets that are of no use any more. The compiler may not leave it out.
+pub fn wipe(octets: &mut [u8]) {
+    for octet in octets {
+        // SAFETY: the reference is valid, and this value's alone.
+        unsafe { ptr::write_volatile(octet, 0) }
+    }
+    compiler_fence(Ordering::SeqCst);
+}
+
+impl Drop for ffi::Fresh {
+    fn drop(&mut self) {
+        self.spi = 0;
+        wipe(&mut self.nonce);
+        wipe(&mut self.secret);
+        wipe(&mut self.seal);
+    }
+}
+
+impl Drop for ffi::Terms {
+    fn drop(&mut self) {
+        wipe(&mut self.cookie_secret);
+    }
+}
+
+#[cfg(test)]
+mod tests {
+    use super::wipe;
+
+    #[test]
+    fn all_octets_are_wiped() {
+        let mut octets = [7; 33];
+        wipe(&mut octets);
+        assert_eq!(octets, [0; 33]);
     }
 }

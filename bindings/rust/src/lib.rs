@@ -28,13 +28,13 @@
 //!     address: Ipv4Addr::new(192, 0, 2, 2),
 //!     secret: b"a long secret that both ends know",
 //! };
-//! let config = Config::new(own, peer, [9; 32]);
+//! let config = Config::new(own, peer, &[9; 32]);
 //! let local = Range::v4_prefix(Ipv4Addr::new(10, 0, 0, 0), 24)?;
 //! let remote = Range::v4_prefix(Ipv4Addr::new(10, 1, 0, 0), 24)?;
 //! let mut gateway = Gateway::new(&config, &[Entry::protect(local, remote)])?;
 //!
 //! gateway.tick(0)?;
-//! let fresh = Fresh::from_octets(octets_of_the_system);
+//! let fresh = Fresh::from_octets(&octets_of_the_system);
 //! if let Output::Request { octets, .. } = gateway.start(None, 0, fresh)? {
 //!     // to the peer, by UDP, from port 500 to port 500
 //! #   drop(octets);

@@ -72,14 +72,14 @@ pub struct Config<'a> {
     /// The first inbound SPI of ESP, from 256 to 2^32 - 65,536. A gateway gives up to 65,536 from here on, so those of several
     /// gateways lie at least so far apart.
     pub first_spi: u32,
-    /// The first secret of its cookies: unpredictable octets.
-    pub cookie_secret: [u8; 32],
+    /// The first secret of its cookies: unpredictable octets. What is made of it here is wiped; the octets are the caller's to wipe.
+    pub cookie_secret: &'a [u8; 32],
 }
 
 impl<'a> Config<'a> {
     /// A configuration of these ends with extended sequence numbers, one request taken at once, replay windows of 64 blocks (4032
     /// numbers) and the first SPI 4096.
-    pub fn new(own: End<'a>, peer: End<'a>, cookie_secret: [u8; 32]) -> Config<'a> {
+    pub fn new(own: End<'a>, peer: End<'a>, cookie_secret: &'a [u8; 32]) -> Config<'a> {
         Config {
             own,
             peer,
@@ -91,8 +91,9 @@ impl<'a> Config<'a> {
         }
     }
 
-    pub(crate) fn terms(&self, tells_keys: bool) -> ffi::Terms {
-        ffi::Terms {
+    // Boxed before the secret comes, so that no move leaves a copy of it.
+    pub(crate) fn terms(&self, tells_keys: bool) -> Box<ffi::Terms> {
+        let mut terms = Box::new(ffi::Terms {
             own_kind: self.own.identity.kind(),
             peer_kind: self.peer.identity.kind(),
             extended: u8::from(self.extended),
@@ -101,10 +102,12 @@ impl<'a> Config<'a> {
             first_spi: self.first_spi,
             own_address: self.own.address.octets(),
             peer_address: self.peer.address.octets(),
-            cookie_secret: self.cookie_secret,
+            cookie_secret: [0; 32],
             tells_keys: u8::from(tells_keys),
             reserved: [0; 3],
-        }
+        });
+        terms.cookie_secret.copy_from_slice(self.cookie_secret);
+        terms
     }
 }
 
@@ -261,21 +264,22 @@ impl Entry {
 }
 
 /// The randomness of one input. It can't be copied, and an input takes it: draw another one for each, also after one that
-/// was refused. If a nonce and a secret came again, keys would.
-pub struct Fresh(pub(crate) ffi::Fresh);
+/// was refused. If a nonce and a secret came again, keys would. It is wiped when it is dropped.
+pub struct Fresh(pub(crate) Box<ffi::Fresh>);
 
 impl Fresh {
     /// How many random octets make one.
     pub const OCTETS: usize = 88;
 
-    /// Of octets that the system's random source gave: unpredictable, and of no use before or after.
-    pub fn from_octets(octets: [u8; Fresh::OCTETS]) -> Fresh {
-        let mut fresh = ffi::Fresh {
+    /// Of octets that the system's random source gave: unpredictable, and of no use before or after. They are the caller's to wipe.
+    pub fn from_octets(octets: &[u8; Fresh::OCTETS]) -> Fresh {
+        // Boxed before the octets come, so that no move leaves a copy of them.
+        let mut fresh = Box::new(ffi::Fresh {
             spi: 0,
             nonce: [0; 32],
             secret: [0; 32],
             seal: [0; 16],
-        };
+        });
         let (spi, others) = octets.split_at(8);
         let (nonce, others) = others.split_at(32);
         let (secret, seal) = others.split_at(32);

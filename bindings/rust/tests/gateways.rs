@@ -13,7 +13,7 @@ impl Chance {
     fn fresh(&mut self) -> Fresh {
         self.0 += 1;
         let seed = self.0;
-        Fresh::from_octets(std::array::from_fn(|index| {
+        Fresh::from_octets(&std::array::from_fn(|index| {
             seed.wrapping_mul(31).wrapping_add(index as u8)
         }))
     }
@@ -43,7 +43,7 @@ fn config(index: usize) -> Config<'static> {
     Config::new(
         end_of(index, b"secret"),
         end_of(1 - index, b"secret"),
-        [7; 32],
+        &[7; 32],
     )
 }
 
@@ -391,7 +391,7 @@ fn time_brings_requests_again_and_an_end() {
 #[test]
 fn another_secret_gives_no_child() {
     let mut world = World::new();
-    let config = Config::new(end_of(1, b"secret"), end_of(0, b"another"), [7; 32]);
+    let config = Config::new(end_of(1, b"secret"), end_of(0, b"another"), &[7; 32]);
     world.b = Gateway::new(&config, &policy(1)).unwrap();
     let request = world.a.start(None, 0, world.chance.fresh()).unwrap();
     assert!(matches!(
@@ -406,7 +406,7 @@ fn another_secret_gives_no_child() {
 
 #[test]
 fn what_cannot_be_used_is_refused() {
-    let mut config = Config::new(end_of(0, b"secret"), end_of(1, b"secret"), [7; 32]);
+    let mut config = Config::new(end_of(0, b"secret"), end_of(1, b"secret"), &[7; 32]);
     config.window = 17;
     assert_eq!(Gateway::new(&config, &[]).err(), Some(Error::Configuration));
     config.window = 16;

@@ -30,6 +30,24 @@ impl Range {
 }
 
 impl Prefix {
+    /// The network, by its first address.
+    pub fn network(self) -> Prefix {
+        let address = match self.ends() {
+            Range::V4(first, _) => IpAddr::V4(first),
+            Range::V6(first, _) => IpAddr::V6(first),
+        };
+        Prefix { address, ..self }
+    }
+
+    /// Whether an address is one of the network's.
+    pub fn holds(self, address: IpAddr) -> bool {
+        match (self.ends(), address) {
+            (Range::V4(first, last), IpAddr::V4(address)) => (first..=last).contains(&address),
+            (Range::V6(first, last), IpAddr::V6(address)) => (first..=last).contains(&address),
+            _ => false,
+        }
+    }
+
     /// The first and the last address of the network.
     fn ends(self) -> Range {
         match self.address {
@@ -86,10 +104,7 @@ pub(super) fn read_prefix(value: &Value<'_>) -> Result<Prefix, ConfigFault> {
 /// A network: its bits behind the prefix are zero.
 pub(super) fn read_network(value: &Value<'_>) -> Result<Prefix, ConfigFault> {
     let prefix = read_prefix(value)?;
-    let first = match prefix.ends() {
-        Range::V4(first, _) => IpAddr::V4(first),
-        Range::V6(first, _) => IpAddr::V6(first),
-    };
+    let first = prefix.network().address;
     if prefix.address == first {
         Ok(prefix)
     } else {

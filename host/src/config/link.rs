@@ -101,7 +101,7 @@ pub(super) fn read_peer(value: &Value<'_>, folder: &Path) -> Result<PeerConfig, 
     };
     let tun = table
         .optional("tun")
-        .map(|value| read_tun(&value))
+        .map(|value| read_tun(&value, &entries))
         .transpose()?;
     table.finish(KEYS)?;
     Ok(PeerConfig {

@@ -1,6 +1,7 @@
 //! Secrets, each in a file that its owner alone can read.
 
 use super::fault::ConfigFault;
+use super::open_at_once;
 use super::table::Value;
 use std::fmt;
 use std::fs::File;
@@ -73,7 +74,7 @@ pub(super) fn read_secret(value: &Value<'_>, folder: &Path) -> Result<Secret, Co
 /// The file is judged when it is open, so that no other one can take its place
 /// between the two.
 fn secret_in(path: &Path) -> Result<Secret, SecretFault> {
-    let file = File::open(path).map_err(SecretFault::Unread)?;
+    let file = open_at_once(path).map_err(SecretFault::Unread)?;
     let about = file.metadata().map_err(SecretFault::Unread)?;
     if !about.is_file() {
         return Err(SecretFault::NoFile);
@@ -81,7 +82,8 @@ fn secret_in(path: &Path) -> Result<Secret, SecretFault> {
     if about.mode() & 0o077 != 0 {
         return Err(SecretFault::Open(about.mode() & 0o777));
     }
-    if own_user().is_some_and(|user| user != about.uid()) {
+    // Asked of the kernel: what `/proc` tells depends on how it is mounted.
+    if nix::unistd::geteuid().as_raw() != about.uid() {
         return Err(SecretFault::Foreign(about.uid()));
     }
     octets_of(file)
@@ -115,11 +117,4 @@ fn octets_of(file: File) -> Result<Secret, SecretFault> {
         1..=MOST_OCTETS => Ok(Secret(octets)),
         _ => Err(SecretFault::Long),
     }
-}
-
-/// The user who runs this, as Linux tells it of the process's folder in `/proc`.
-fn own_user() -> Option<u32> {
-    std::fs::metadata("/proc/self")
-        .ok()
-        .map(|about| about.uid())
 }

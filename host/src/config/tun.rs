@@ -1,6 +1,7 @@
 //! The interface to the inside.
 
-use super::address::{read_network, read_prefix, Prefix};
+use super::address::{read_network, read_prefix, Prefix, Range};
+use super::entry::{Action, Entry};
 use super::fault::ConfigFault;
 use super::table::Value;
 
@@ -9,6 +10,16 @@ const GROWTH: u16 = 49;
 
 /// The outer MTU where none is told, in octets.
 const OUTER_MTU: u16 = 1_500;
+
+/// The longest packet that the core takes, in octets.
+const LONGEST: u16 = 16_384;
+
+/// The least MTU inside, in octets.
+const LEAST: u16 = 576;
+
+/// The least MTU of a link that carries IPv6 (RFC 8200 section 5), in octets: below it Linux
+/// takes IPv6 away from the interface.
+const LEAST_V6: u16 = 1_280;
 
 /// A TUN interface.
 #[derive(Clone, Debug, PartialEq, Eq)]
@@ -26,7 +37,8 @@ pub struct Tun {
 const KEYS: &str = "name, addresses, routes, mtu, outer_mtu";
 const NAME: &str = "a name of 1 to 15 letters, digits, -, _ and .";
 
-pub(super) fn read_tun(value: &Value<'_>) -> Result<Tun, ConfigFault> {
+/// Reads the interface of a peer with this policy.
+pub(super) fn read_tun(value: &Value<'_>, policy: &[Entry]) -> Result<Tun, ConfigFault> {
     let mut table = value.table("a table [peers.tun]")?;
     let name = read_name(&table.required("name", NAME)?)?;
     let addresses = match table.optional("addresses") {
@@ -37,14 +49,22 @@ pub(super) fn read_tun(value: &Value<'_>) -> Result<Tun, ConfigFault> {
         Some(value) => read_all(&value, read_network)?,
         None => Vec::new(),
     };
+    let protects_v6 =
+        |entry: &Entry| entry.action == Action::Protect && matches!(entry.local, Range::V6(..));
+    let mut prefixes = addresses.iter().chain(&routes);
+    let with_v6 = prefixes.any(|prefix| prefix.address.is_ipv6()) || policy.iter().any(protects_v6);
+    let (least, why) = match with_v6 {
+        true => (LEAST_V6, ", since there is IPv6 inside"),
+        false => (LEAST, ""),
+    };
     let outer = match table.optional("outer_mtu") {
-        Some(value) => read_mtu(&value, 576 + GROWTH, u16::MAX)?,
+        Some(value) => read_mtu(&value, least + GROWTH, u16::MAX, why)?,
         None => OUTER_MTU,
     };
-    let most = outer - GROWTH;
+    let most = (outer - GROWTH).min(LONGEST);
     let mtu = match table.optional("mtu") {
-        // Above this an outer packet would have to be cut.
-        Some(value) => read_mtu(&value, 576, most)?,
+        // Above this an outer packet would have to be cut, or the core takes none.
+        Some(value) => read_mtu(&value, least, most, why)?,
         None => most,
     };
     table.finish(KEYS)?;
@@ -56,9 +76,13 @@ pub(super) fn read_tun(value: &Value<'_>) -> Result<Tun, ConfigFault> {
     })
 }
 
-fn read_mtu(value: &Value<'_>, least: u16, most: u16) -> Result<u16, ConfigFault> {
-    let number = value.whole(i64::from(least)..=i64::from(most))?;
-    u16::try_from(number).map_err(|_| value.fault("a number of 16 bits"))
+fn read_mtu(value: &Value<'_>, least: u16, most: u16, why: &str) -> Result<u16, ConfigFault> {
+    let expected = format!("a whole number from {least} to {most}{why}");
+    let number = value.whole(i64::from(least)..=i64::from(most));
+    number
+        .ok()
+        .and_then(|number| u16::try_from(number).ok())
+        .ok_or_else(|| value.fault(expected))
 }
 
 fn read_name(value: &Value<'_>) -> Result<String, ConfigFault> {

@@ -59,7 +59,7 @@ impl Core for LibraryCore {
             window: peer.window,
             blocks: peer.blocks,
             first_spi: terms.first_spi,
-            cookie_secret: *terms.cookie_secret,
+            cookie_secret: terms.cookie_secret,
         };
         sukperin::Gateway::new(&config, &policy_of(peer))
             .map(|gateway| LibraryCore {
@@ -202,7 +202,7 @@ fn selector_of(selector: &sukperin::Selector) -> Selector {
 }
 
 fn fresh_of(fresh: &Fresh) -> sukperin::Fresh {
-    sukperin::Fresh::from_octets(*fresh.octets())
+    sukperin::Fresh::from_octets(fresh.octets())
 }
 
 type Told<'a> = Result<Output<'a>, sukperin::Error>;

@@ -3,6 +3,7 @@
 use super::Stop;
 use crate::core::Fresh;
 use crate::system::{Level, System};
+use std::io;
 use std::net::Ipv4Addr;
 use zeroize::Zeroizing;
 
@@ -18,6 +19,8 @@ pub(super) struct Shared {
     pub(super) local: Ipv4Addr,
     /// The first SPIs of all open gateways.
     first_spis: Vec<u32>,
+    /// Until when the kernel's idea of paths' MTUs isn't heeded, in milliseconds.
+    unheeded_until: Option<u64>,
 }
 
 /// The system, what all sites share, and the moment.
@@ -32,6 +35,7 @@ impl Shared {
         Shared {
             local,
             first_spis: Vec::new(),
+            unheeded_until: None,
         }
     }
 
@@ -51,13 +55,28 @@ impl<'a, S: System> Around<'a, S> {
         }
     }
 
+    /// For so long, in milliseconds, the kernel's idea of paths' MTUs isn't heeded.
+    pub(super) fn unheed_paths(&mut self, lasts: u64) -> io::Result<()> {
+        self.system.heed_path_mtu(false)?;
+        self.shared.unheeded_until = Some(self.now.saturating_add(lasts));
+        Ok(())
+    }
+
+    /// Heeds it again, once the time is over.
+    pub(super) fn heed_paths(&mut self) {
+        let over = |until: u64| until <= self.now;
+        if self.shared.unheeded_until.is_some_and(over) && self.system.heed_path_mtu(true).is_ok() {
+            self.shared.unheeded_until = None;
+        }
+    }
+
     /// Random octets for one input.
     pub(super) fn fresh(&mut self) -> Result<Fresh, Stop> {
         self.draw().map(Fresh::new)
     }
 
     /// A secret for cookies.
-    pub(super) fn secret(&mut self) -> Result<Zeroizing<[u8; 32]>, Stop> {
+    pub(super) fn secret(&mut self) -> Result<Box<Zeroizing<[u8; 32]>>, Stop> {
         self.draw()
     }
 
@@ -67,7 +86,7 @@ impl<'a, S: System> Around<'a, S> {
         loop {
             let octets = self.draw::<4>()?;
             let last = u32::MAX - SPIS + 1;
-            let first = FIRST_SPI + u32::from_ne_bytes(*octets) % (last - FIRST_SPI + 1);
+            let first = FIRST_SPI + u32::from_ne_bytes(**octets) % (last - FIRST_SPI + 1);
             let meets = |other: &u32| other.abs_diff(first) < SPIS;
             // Few gateways are open at once, so the first try is mostly the last.
             if !self.shared.first_spis.iter().any(meets) {
@@ -77,8 +96,9 @@ impl<'a, S: System> Around<'a, S> {
         }
     }
 
-    fn draw<const N: usize>(&mut self) -> Result<Zeroizing<[u8; N]>, Stop> {
-        let mut octets = Zeroizing::new([0; N]);
+    /// Octets that stay where they were drawn until they are wiped: a box moves without them.
+    fn draw<const N: usize>(&mut self) -> Result<Box<Zeroizing<[u8; N]>>, Stop> {
+        let mut octets = Box::new(Zeroizing::new([0; N]));
         self.system
             .draw(octets.as_mut_slice())
             .map_err(Stop::NoChance)?;

@@ -159,13 +159,12 @@ impl<C: Core> Site<C> {
         }
         let packets: Vec<&[u8]> = ups.iter().map(|up| &octets[up.clone()]).collect();
         buffers.joined.clear();
-        if let Inside::Open(joiner) = &mut self.inside {
-            joiner.join(&packets, &mut buffers.joined);
+        match &mut self.inside {
+            Inside::Open(joiner) => joiner.join(&packets, &mut buffers.joined),
+            Inside::None | Inside::Gone(_) => self.counters.unwritten += packets.len() as u64,
         }
         for packet in buffers.joined.iter() {
-            if self.inside.is_open() {
-                self.write_inside(around, packet);
-            }
+            self.write_inside(around, packet);
         }
         self.buffers = Some(buffers);
         self.tell_opened(around, number, shares)?;
@@ -229,10 +228,16 @@ impl<C: Core> Site<C> {
     /// Writes what the interface is to have. A packet that it doesn't take is lost, as on
     /// any link.
     pub(super) fn write_inside<S: System>(&mut self, around: &mut Around<'_, S>, packet: &[u8]) {
+        if !self.inside.is_open() {
+            self.counters.unwritten += 1;
+            return;
+        }
         let result = around.system.write_inside(self.key(), packet);
         let Err(error) = result else { return };
         self.counters.unwritten += 1;
-        if is_gone(&error) {
+        // An interface that was set down takes nothing, by this word, and has lost its routes.
+        let is_down = error.raw_os_error() == Some(libc::EIO);
+        if is_down || is_gone(&error) {
             self.lose_inside(around, &error);
         } else {
             let what = format!("the interface takes no packet: {error}");

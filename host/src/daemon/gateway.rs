@@ -87,8 +87,10 @@ impl<C: Core> Gateway<C> {
         })
     }
 
-    /// Compares the table of Child SAs with what was known of it.
-    pub(super) fn look(&mut self, entries: &[Entry], now: u64) -> Change {
+    /// Compares the table of Child SAs with what was known of it, after an answer to this
+    /// end's request under an IKE SA, or after something else. Of what the peer asked for
+    /// nothing is known but its selectors: what this end asks for is still under way.
+    pub(super) fn look(&mut self, entries: &[Entry], now: u64, answered: Option<u32>) -> Change {
         let table = self.core.children();
         let mut change = Change::default();
         self.children.retain(|serial, carried| {
@@ -102,7 +104,8 @@ impl<C: Core> Gateway<C> {
             if self.children.contains_key(&child.child) {
                 continue;
             }
-            let asked = self.asked.remove(&child.ike);
+            let asked = answered.filter(|ike| *ike == child.ike);
+            let asked = asked.and_then(|ike| self.asked.remove(&ike));
             let entry = asked.or_else(|| entry_of(child, entries));
             // A Child SA of no entry is cared for as one that nothing is asked of.
             let entry = entry.unwrap_or(u32::MAX);

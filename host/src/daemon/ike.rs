@@ -135,7 +135,7 @@ impl<C: Core> Site<C> {
         closed: bool,
     ) -> Result<(), Stop> {
         let gateway = &mut self.gateways[place];
-        let change = gateway.look(&self.config.entries, around.now);
+        let change = gateway.look(&self.config.entries, around.now, None);
         // Of a first request there is none with these SPIs.
         let association = heading.and_then(|heading| gateway.association_of(&heading));
         let Some(association) = association else {
@@ -167,10 +167,8 @@ impl<C: Core> Site<C> {
         }
         if association.phase != Phase::Established {
             if closed {
-                self.log_change(
-                    around,
-                    "an IKE SA that the peer began was declined: secret or identities",
-                );
+                let what = "an IKE SA that the peer began was declined: secret or identities";
+                self.note_trouble(around, Trouble::Declined, what);
             }
             return Ok(());
         }
@@ -213,16 +211,14 @@ impl<C: Core> Site<C> {
         let Some(gateway) = gateways.find(|gateway| gateway.number == number) else {
             return Ok(());
         };
-        let change = gateway.look(entries, now);
+        let change = gateway.look(entries, now, Some(ike));
         gateway.asked.remove(&ike);
         let child = child.and_then(|_| change.made_under(ike));
         let mut said = None;
+        let mut declined = false;
         if closed {
-            let stood = gateway.established.remove(&ike).is_some();
-            said = Some(match stood {
-                true => "an IKE SA is ended",
-                false => "the peer declined an IKE SA, or this end its proof",
-            });
+            declined = gateway.established.remove(&ike).is_none();
+            said = (!declined).then_some("an IKE SA is ended");
         } else if let Entry::Vacant(vacant) = gateway.established.entry(ike) {
             vacant.insert(now);
             said = Some(match child {
@@ -232,6 +228,10 @@ impl<C: Core> Site<C> {
         }
         if let Some(said) = said {
             self.log_change(around, said);
+        }
+        if declined {
+            let what = "the peer declined an IKE SA, or this end its proof";
+            self.note_trouble(around, Trouble::Declined, what);
         }
         let association = AssociationName {
             gateway: number,

@@ -7,7 +7,7 @@ use super::site::{Buffers, Inside, Site, Trouble, MTU_LASTS};
 use super::Stop;
 use crate::core::{Core, Passage};
 use crate::path::offload::cut;
-use crate::path::outer::{fits, inner_mtu, too_big, OuterHeader};
+use crate::path::outer::{fits, inner_mtu, too_big, OuterHeader, OVERHEAD};
 use crate::peer::{ChildName, Event};
 use crate::system::{EspPacket, System, LIST};
 use std::collections::BTreeMap;
@@ -18,9 +18,9 @@ use std::ops::Range;
 /// have the least size that TCP takes makes fewer.
 const PIECES: usize = 1_024;
 
-/// The least MTU that a path may tell: that of IPv4 (RFC 791), so that nobody can make
-/// packets as small as they like.
-const LEAST_MTU: u16 = 576;
+/// The least MTU of a path that is believed, in octets: inside, IPv6 sends no smaller packets
+/// than of 1280, and anybody can make the kernel believe less by a forged ICMP message.
+const LEAST_MTU: u16 = 1_280 + OVERHEAD;
 
 impl<C: Core> Site<C> {
     /// Reads a list of packets, and seals and sends them.
@@ -63,6 +63,10 @@ impl<C: Core> Site<C> {
                     _ => {
                         if is_gone(&error) {
                             self.lose_inside(around, &error);
+                        } else {
+                            self.counters.unread += 1;
+                            let what = format!("the interface can't be read: {error}");
+                            self.note_trouble(around, Trouble::Unread, &what);
                         }
                         return;
                     }
@@ -73,16 +77,23 @@ impl<C: Core> Site<C> {
 
     fn send_lists<S: System>(&mut self, around: &mut Around<'_, S>, buffers: &mut Buffers) -> Sent {
         let mut sent = Sent::default();
-        let Some(carrier) = self.carrier else {
-            return sent;
-        };
-        sent.gateway = carrier;
         let Buffers {
             cut: list,
             room,
             passed,
             ..
         } = buffers;
+        let carrier = self.carrier;
+        let carrier = carrier.filter(|carrier| self.gateway(*carrier).is_some());
+        let Some(carrier) = carrier else {
+            if !list.is_empty() {
+                self.counters.uncarried += list.len() as u64;
+                let what = "packets going out have no gateway to go by";
+                self.note_trouble(around, Trouble::Uncarried, what);
+            }
+            return sent;
+        };
+        sent.gateway = carrier;
         let octets = list.octets();
         for places in list.places().chunks(LIST) {
             let places = self.fitting(around, octets, places);
@@ -106,7 +117,7 @@ impl<C: Core> Site<C> {
                             place: sealed.clone(),
                             class: header.map_or(0, |header| header.class),
                         });
-                        inner.push(place.clone());
+                        inner.push((*child, place.clone()));
                     }
                     Passage::Clear => {
                         // There is no way past the interface that doesn't lead to it again.
@@ -122,7 +133,7 @@ impl<C: Core> Site<C> {
                     Passage::Up { .. } | Passage::Dummy { .. } => {}
                 }
             }
-            self.send_esp(around, room, &list, octets, &inner);
+            self.send_esp(around, room, &list, octets, &inner, &mut sent.taken);
         }
         sent
     }
@@ -147,34 +158,49 @@ impl<C: Core> Site<C> {
 
     fn answer_too_big<S: System>(&mut self, around: &mut Around<'_, S>, packet: &[u8]) {
         self.counters.too_long += 1;
+        if !self.answers.admit(around.now) {
+            return;
+        }
         if let Some(answer) = too_big(packet, inner_mtu(self.outer_mtu())) {
             self.write_alone(around, &answer);
         }
     }
 
-    /// Sends a list, mostly by one call. What the kernel doesn't take is lost, as on any
-    /// link; what is too long for the path is answered.
+    /// Sends a list, mostly by one call, and adds what the kernel took of it to the shares of
+    /// the Child SAs. What it doesn't take is lost, as on any link; what is too long for the
+    /// path is answered.
     fn send_esp<S: System>(
         &mut self,
         around: &mut Around<'_, S>,
         room: &[u8],
         list: &[EspPacket],
         octets: &[u8],
-        inner: &[Range<usize>],
+        inner: &[(u32, Range<usize>)],
+        taken: &mut BTreeMap<u32, Share>,
     ) {
         let to = self.config.address;
         let mut at = 0;
+        let mut doubted = false;
         while at < list.len() {
             match around.system.send_esp(to, room, &list[at..]) {
                 Ok(0) => break,
                 Ok(count) => {
+                    for (child, place) in inner[at..].iter().take(count) {
+                        taken.entry(*child).or_default().add(0, place.len());
+                    }
                     at += count;
                     self.counters.esp_out += count as u64;
                 }
                 Err(error) if error.kind() == io::ErrorKind::Interrupted => {}
                 Err(error) if error.raw_os_error() == Some(libc::EMSGSIZE) => {
+                    // The same packet goes again where the kernel's word isn't believed.
+                    if !doubted && self.doubts_path(around) {
+                        doubted = true;
+                        continue;
+                    }
                     self.narrow(around);
-                    self.answer_too_big(around, &octets[inner[at].clone()]);
+                    let (_, place) = &inner[at];
+                    self.answer_too_big(around, &octets[place.clone()]);
                     at += 1;
                 }
                 Err(error) => {
@@ -188,11 +214,30 @@ impl<C: Core> Site<C> {
         }
     }
 
+    /// The least MTU of the path that is believed, in octets: a configuration may want less.
+    fn least_mtu(&self) -> u16 {
+        self.configured_mtu().min(LEAST_MTU)
+    }
+
+    /// Whether the kernel takes the path for one that is too narrow to be believed. Then it
+    /// isn't heeded for a while: packets go out as before, and none is cut on its way.
+    fn doubts_path<S: System>(&mut self, around: &mut Around<'_, S>) -> bool {
+        let Ok(mtu) = around.system.path_mtu(self.config.address) else {
+            return false;
+        };
+        if mtu >= self.least_mtu() {
+            return false;
+        }
+        let what = format!("the kernel takes the path's MTU for {mtu}, which isn't believed");
+        self.note_trouble(around, Trouble::Path, &what);
+        around.unheed_paths(MTU_LASTS).is_ok()
+    }
+
     /// The path's MTU is less than it was.
     fn narrow<S: System>(&mut self, around: &mut Around<'_, S>) {
         if let Ok(mtu) = around.system.path_mtu(self.config.address) {
             let until = around.now.saturating_add(MTU_LASTS);
-            self.narrow = Some((mtu.max(LEAST_MTU), until));
+            self.narrow = Some((mtu.max(self.least_mtu()), until));
         }
     }
 
@@ -203,14 +248,15 @@ impl<C: Core> Site<C> {
     ) -> Result<(), Stop> {
         let gateway = sent.gateway;
         for (child, share) in sent.shares {
-            self.counters.octets_out += share.octets;
+            let taken = sent.taken.get(&child).copied().unwrap_or_default();
+            self.counters.octets_out += taken.octets;
             if let Some(carried) = self
                 .gateway(gateway)
                 .and_then(|of| of.children.get_mut(&child))
             {
                 carried.sent = carried.sent.max(share.number);
-                carried.packets_out += share.packets;
-                carried.octets_out += share.octets;
+                carried.packets_out += taken.packets;
+                carried.octets_out += taken.octets;
             }
             let event = Event::Sealed {
                 child: ChildName { gateway, child },
@@ -235,7 +281,10 @@ impl<C: Core> Site<C> {
 #[derive(Debug, Default)]
 struct Sent {
     gateway: u32,
+    /// What was sealed by each Child SA.
     shares: BTreeMap<u32, Share>,
+    /// What the kernel took of it.
+    taken: BTreeMap<u32, Share>,
     /// Whether a Child SA's numbers were all sent.
     ended: bool,
 }

@@ -25,10 +25,17 @@ impl<C: Core> Daemon<C> {
             system.log(Level::Error, line);
             return Ok(());
         }
+        // Interfaces and routes that change hands are let go before any is made: none can be
+        // there twice.
         for site in &mut self.sites {
-            let named = |peer: &PeerConfig| peer.name == site.config.name;
-            if !config.peers.iter().any(named) {
-                site.leave(&mut Around::new(system, &mut self.shared))?;
+            let mut around = Around::new(system, &mut self.shared);
+            let named = |peer: &&PeerConfig| peer.name == site.config.name;
+            let stays = config.peers.iter().find(named);
+            if stays.is_none() {
+                site.leave(&mut around)?;
+            }
+            if site.is_leaving() || stays.is_some_and(|peer| peer.tun != site.config.tun) {
+                site.let_inside_go(&mut around);
             }
         }
         for peer in config.peers {

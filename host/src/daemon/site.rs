@@ -18,6 +18,10 @@ use std::collections::{BTreeMap, BTreeSet};
 /// First requests of a peer that are let in at once, and one more after each interval.
 const FIRST_REQUESTS: (u64, u64) = (3, 1_000);
 
+/// Answers to the inside that something is too long: so many at once, and one more after each
+/// interval.
+const ANSWERS: (u64, u64) = (100, 100);
+
 /// How long after an interface went it is made anew, in milliseconds.
 const AGAIN: u64 = 5_000;
 
@@ -47,9 +51,19 @@ pub(super) enum Trouble {
     Unwritten,
     Malformed,
     Interface,
+    /// An interface can't be made.
+    NoInterface,
     NoGateway,
     FirstRequests,
     Bypassed,
+    /// An IKE SA was declined, at either end.
+    Declined,
+    /// The interface can't be read.
+    Unread,
+    /// Packets have no gateway to go by.
+    Uncarried,
+    /// The kernel's idea of the path's MTU isn't believed.
+    Path,
 }
 
 /// Memory that is used again for each list.
@@ -73,6 +87,7 @@ pub(super) struct Site<C> {
     pub(super) kept: BTreeMap<u64, Vec<u8>>,
     pub(super) next_packet: u64,
     pub(super) first_requests: Allowance,
+    pub(super) answers: Allowance,
     pub(super) inside: Inside,
     /// A path's MTU that is below the configured one, and until when it holds.
     pub(super) narrow: Option<(u16, u64)>,
@@ -99,7 +114,7 @@ impl Buffers {
 
 impl<C: Core> Site<C> {
     pub(super) fn new(key: SiteKey, config: PeerConfig, now: u64) -> Site<C> {
-        let (most, interval) = FIRST_REQUESTS;
+        let allowance = |(most, interval)| Allowance::new(most, interval);
         Site {
             key,
             peer: Peer::new(config.settings(), now),
@@ -109,7 +124,8 @@ impl<C: Core> Site<C> {
             held: BTreeSet::new(),
             kept: BTreeMap::new(),
             next_packet: 1,
-            first_requests: Allowance::new(most, interval),
+            first_requests: allowance(FIRST_REQUESTS),
+            answers: allowance(ANSWERS),
             inside: Inside::None,
             narrow: None,
             counters: Counters::default(),
@@ -234,7 +250,7 @@ impl<C: Core> Site<C> {
         {
             gateway.asked.remove(&ike);
             let stood = gateway.established.remove(&ike).is_some();
-            gateway.look(&self.config.entries, now);
+            gateway.look(&self.config.entries, now, None);
             let what = if stood { "an IKE SA" } else { "a start" };
             let line = format!("peer {}: {what} ended without an answer", self.config.name);
             around.log(Level::Warning, &line);
@@ -262,18 +278,22 @@ impl<C: Core> Site<C> {
             .find(|gateway| gateway.number == number)
     }
 
+    /// The MTU outside that the configuration leaves room for.
+    pub(super) fn configured_mtu(&self) -> u16 {
+        let inner = self.config.tun.as_ref().map_or(0, |tun| tun.mtu);
+        inner.saturating_add(OVERHEAD)
+    }
+
     /// The MTU outside: what the configuration leaves room for, or less by the path.
     pub(super) fn outer_mtu(&self) -> u16 {
-        let inner = self.config.tun.as_ref().map_or(0, |tun| tun.mtu);
-        let outer = inner.saturating_add(OVERHEAD);
+        let outer = self.configured_mtu();
         self.narrow.map_or(outer, |(mtu, _)| mtu.min(outer))
     }
 
     /// Makes the interface, if the configuration has one.
     pub(super) fn open_inside<S: System>(&mut self, around: &mut Around<'_, S>) {
         let Some(tun) = &self.config.tun else {
-            around.system.close_inside(self.key);
-            self.inside = Inside::None;
+            self.let_inside_go(around);
             return;
         };
         match around.system.open_inside(self.key, tun) {
@@ -286,8 +306,23 @@ impl<C: Core> Site<C> {
             Err(error) => {
                 let what = format!("interface {}: {error}", tun.name);
                 self.inside = Inside::Gone(around.now.saturating_add(AGAIN));
-                self.note_trouble(around, Trouble::Interface, &what);
+                self.note_trouble(around, Trouble::NoInterface, &what);
             }
+        }
+    }
+
+    /// Lets the interface go, and makes it no more by itself.
+    pub(super) fn let_inside_go<S: System>(&mut self, around: &mut Around<'_, S>) {
+        around.system.close_inside(self.key);
+        self.inside = Inside::None;
+    }
+
+    /// The interface was set down or deleted. Set up again it would still lack its routes and
+    /// its addresses of IPv6, so it is made anew.
+    pub(super) fn take_gone<S: System>(&mut self, around: &mut Around<'_, S>) {
+        if self.inside.is_open() {
+            let error = std::io::Error::other("it was set down or deleted");
+            self.lose_inside(around, &error);
         }
     }
 

@@ -7,6 +7,7 @@
 use super::batch::Batch;
 use super::{EspPacket, LIST};
 use crate::path::offload::Offloads;
+use std::ffi::CString;
 use std::fs::{File, OpenOptions};
 use std::io;
 use std::mem::{size_of, zeroed};
@@ -81,17 +82,68 @@ pub(super) fn open_esp(local: Ipv4Addr) -> io::Result<OwnedFd> {
             length,
         )
     })?;
-    let discover = libc::IP_PMTUDISC_DO;
-    set_option(&socket, libc::IPPROTO_IP, libc::IP_MTU_DISCOVER, discover)?;
+    heed_path_mtu(&socket, true)?;
     Ok(socket)
 }
 
-/// Lets a socket's queue of what came be so long, if it may.
+/// Whether a socket of IPv4 refuses what is longer than the kernel's idea of the path's MTU,
+/// or only what is longer than the first link's. Nothing is cut on its way either way.
+pub(super) fn heed_path_mtu(socket: &impl AsRawFd, heeds: bool) -> io::Result<()> {
+    let discover = match heeds {
+        true => libc::IP_PMTUDISC_DO,
+        false => libc::IP_PMTUDISC_PROBE,
+    };
+    set_option(socket, libc::IPPROTO_IP, libc::IP_MTU_DISCOVER, discover)
+}
+
+/// A socket by which the kernel tells what becomes of interfaces.
+pub(super) fn open_links() -> io::Result<OwnedFd> {
+    let kind = libc::SOCK_RAW | libc::SOCK_NONBLOCK | libc::SOCK_CLOEXEC;
+    // SAFETY: the call takes numbers.
+    let number = answer(unsafe { libc::socket(libc::AF_NETLINK, kind, libc::NETLINK_ROUTE) })?;
+    // SAFETY: the kernel just gave this descriptor, and nobody else has it.
+    let socket = unsafe { OwnedFd::from_raw_fd(number) };
+    // SAFETY: all zeros are a value of this record, which has numbers alone.
+    let mut address: libc::sockaddr_nl = unsafe { zeroed() };
+    address.nl_family = libc::AF_NETLINK as libc::sa_family_t;
+    address.nl_groups = libc::RTMGRP_LINK as u32;
+    let length = size_of::<libc::sockaddr_nl>() as libc::socklen_t;
+    // SAFETY: the address lives until after the call, and is as long as told.
+    answer(unsafe {
+        libc::bind(
+            number,
+            (&address as *const libc::sockaddr_nl).cast(),
+            length,
+        )
+    })?;
+    Ok(socket)
+}
+
+/// The kernel's number for an interface, which no later one of its name has.
+pub(super) fn index_of(name: &str) -> io::Result<u32> {
+    let name = CString::new(name)?;
+    // SAFETY: the name ends with a zero, and lives until after the call.
+    match unsafe { libc::if_nametoindex(name.as_ptr()) } {
+        0 => Err(io::Error::last_os_error()),
+        index => Ok(index),
+    }
+}
+
+/// Lets a socket's queues be so long, if it may: that of what came and that of what goes out.
 pub(super) fn widen(socket: &impl AsRawFd, octets: i32) {
-    let forced = set_option(socket, libc::SOL_SOCKET, libc::SO_RCVBUFFORCE, octets);
-    if forced.is_err() {
+    lengthen(socket, libc::SO_RCVBUFFORCE, libc::SO_RCVBUF, octets);
+    widen_out(socket, octets);
+}
+
+/// Lets a socket's queue of what goes out be so long, if it may.
+pub(super) fn widen_out(socket: &impl AsRawFd, octets: i32) {
+    lengthen(socket, libc::SO_SNDBUFFORCE, libc::SO_SNDBUF, octets);
+}
+
+fn lengthen(socket: &impl AsRawFd, forced: i32, allowed: i32, octets: i32) {
+    if set_option(socket, libc::SOL_SOCKET, forced, octets).is_err() {
         // As long as anybody's may be. A shorter one is no fault.
-        let _ = set_option(socket, libc::SOL_SOCKET, libc::SO_RCVBUF, octets);
+        let _ = set_option(socket, libc::SOL_SOCKET, allowed, octets);
     }
 }
 
@@ -238,7 +290,8 @@ const CAP_NET_ADMIN: u32 = 12;
 const CAP_NET_RAW: u32 = 13;
 
 /// Gives up all rights of root but to raw sockets and to interfaces, for this process
-/// and those that it starts, and the chance to get others.
+/// and those that it starts, and the chance to get others. Its memory, in which secrets are,
+/// is from now on no other process's to read, and goes to no file where it crashes.
 pub(super) fn drop_rights() -> io::Result<()> {
     #[repr(C)]
     struct Header {
@@ -252,8 +305,10 @@ pub(super) fn drop_rights() -> io::Result<()> {
         permitted: u32,
         inheritable: u32,
     }
+    // The kernel reads whole words, as which plain numbers of C wouldn't be handed over.
+    let (yes, no): (libc::c_ulong, libc::c_ulong) = (1, 0);
     // SAFETY: the call takes numbers.
-    answer(unsafe { libc::prctl(libc::PR_SET_NO_NEW_PRIVS, 1, 0, 0, 0) })?;
+    answer(unsafe { libc::prctl(libc::PR_SET_NO_NEW_PRIVS, yes, no, no, no) })?;
     let kept = 1 << CAP_NET_ADMIN | 1 << CAP_NET_RAW;
     let header = Header {
         version: CAPABILITY_VERSION,
@@ -275,5 +330,55 @@ pub(super) fn drop_rights() -> io::Result<()> {
     if result < 0 {
         return Err(io::Error::last_os_error());
     }
+    // SAFETY: the call takes numbers.
+    answer(unsafe { libc::prctl(libc::PR_SET_DUMPABLE, no, no, no, no) })?;
     Ok(())
+}
+
+#[cfg(test)]
+mod tests {
+    use super::{heed_path_mtu, index_of, widen};
+    use std::net::UdpSocket;
+    use std::os::unix::io::AsRawFd;
+
+    fn option(socket: &UdpSocket, level: i32, name: i32) -> i32 {
+        let mut value: i32 = 0;
+        let mut length = 4;
+        let room = (&mut value as *mut i32).cast();
+        // SAFETY: the kernel writes at most 4 octets, which `value` has.
+        let result =
+            unsafe { libc::getsockopt(socket.as_raw_fd(), level, name, room, &mut length) };
+        assert_eq!(result, 0);
+        value
+    }
+
+    #[test]
+    fn both_queues_of_a_socket_are_widened() {
+        let socket = UdpSocket::bind("127.0.0.1:0").unwrap();
+        // So little is anybody's to ask for. The kernel doubles it for its own records.
+        widen(&socket, 50_000);
+        for name in [libc::SO_RCVBUF, libc::SO_SNDBUF] {
+            assert_eq!(option(&socket, libc::SOL_SOCKET, name), 100_000);
+        }
+    }
+
+    #[test]
+    fn the_kernels_idea_of_a_path_is_heeded_or_not() {
+        let socket = UdpSocket::bind("127.0.0.1:0").unwrap();
+        let cases = [
+            (true, libc::IP_PMTUDISC_DO),
+            (false, libc::IP_PMTUDISC_PROBE),
+        ];
+        for (heeds, told) in cases {
+            heed_path_mtu(&socket, heeds).unwrap();
+            let found = option(&socket, libc::IPPROTO_IP, libc::IP_MTU_DISCOVER);
+            assert_eq!(found, told);
+        }
+    }
+
+    #[test]
+    fn an_interface_has_an_index_and_none_has_none() {
+        assert_eq!(index_of("lo").unwrap(), 1);
+        assert!(index_of("no such one").is_err());
+    }
 }

@@ -1,6 +1,7 @@
 //! The system, as Linux has it.
 
 use super::control::Control;
+use super::links::Links;
 use super::notify::Notify;
 use super::{calls, interface, Batch, EspPacket, Level, Ready, SiteKey, System};
 use crate::config::{Config, Tun};
@@ -8,7 +9,7 @@ use crate::path::offload::Offloads;
 use nix::poll::{poll, PollFd, PollFlags};
 use nix::sys::signal::{SigSet, Signal};
 use nix::sys::signalfd::{SfdFlags, SignalFd};
-use std::collections::BTreeMap;
+use std::collections::{BTreeMap, BTreeSet};
 use std::fs::File;
 use std::io::{self, Read, Write};
 use std::net::{Ipv4Addr, SocketAddrV4, UdpSocket};
@@ -20,7 +21,7 @@ use thiserror::Error;
 /// The port of IKE (RFC 7296 section 2).
 pub const IKE_PORT: u16 = 500;
 
-/// How many octets may wait in the raw socket.
+/// How many octets may wait in a socket, of what came and of what goes out.
 const QUEUE: i32 = 4 << 20;
 
 /// Why the daemon can't begin.
@@ -50,12 +51,23 @@ pub enum StartFault {
         /// The system's word.
         error: io::Error,
     },
+    /// What becomes of interfaces isn't told.
+    #[error("word of interfaces (netlink): {0}")]
+    Links(io::Error),
     /// Signals can't be taken.
     #[error("signals: {0}")]
     Signals(#[from] nix::Error),
     /// Rights can't be given up.
     #[error("giving up rights: {0}")]
     Rights(io::Error),
+}
+
+/// A TUN interface that is open.
+#[derive(Debug)]
+struct Interface {
+    file: File,
+    /// The kernel's number for it.
+    index: u32,
 }
 
 /// Linux.
@@ -65,7 +77,10 @@ pub struct Linux {
     configuration: PathBuf,
     ike: UdpSocket,
     esp: OwnedFd,
-    inside: BTreeMap<SiteKey, File>,
+    inside: BTreeMap<SiteKey, Interface>,
+    links: Links,
+    /// The sites whose interfaces went, as was told before the loop waited.
+    gone: BTreeSet<SiteKey>,
     control: Control,
     signals: SignalFd,
     notify: Notify,
@@ -88,7 +103,10 @@ impl Linux {
             address: local,
             error,
         })?;
+        calls::widen(&ike, QUEUE);
         calls::widen(&esp, QUEUE);
+        let links = Links::open().map_err(StartFault::Links)?;
+        calls::widen(&links, QUEUE);
         let control = Control::open(control).map_err(|error| StartFault::Control {
             path: control.to_path_buf(),
             error,
@@ -105,6 +123,8 @@ impl Linux {
             ike,
             esp,
             inside: BTreeMap::new(),
+            links,
+            gone: BTreeSet::new(),
             control,
             signals: SignalFd::with_flags(&mask, flags)?,
             notify: Notify::of_environment(),
@@ -116,7 +136,12 @@ impl Linux {
     /// systemd that the daemon is there.
     pub fn begin(&mut self) -> Result<(), StartFault> {
         calls::drop_rights().map_err(StartFault::Rights)?;
-        self.notify.tell("READY=1");
+        // A folder or a file that only root's full rights open was read before.
+        if let Err(fault) = self.read_configuration() {
+            let line = format!("SIGHUP won't be able to read the configuration: {fault}");
+            self.log(Level::Warning, &line);
+        }
+        self.notify.tell_surely("READY=1");
         Ok(())
     }
 
@@ -134,8 +159,23 @@ impl Linux {
         }
     }
 
+    /// Takes note of the interfaces that were set down or deleted.
+    fn take_links(&mut self) {
+        let (indexes, lost) = self.links.take();
+        let down = self.inside.iter();
+        let down = down.filter(|(_, interface)| indexes.contains(&interface.index));
+        self.gone.extend(down.map(|(site, _)| *site));
+        if let Some(error) = lost {
+            let line = format!("an interface may be without routes, its word was lost: {error}");
+            self.log(Level::Warning, &line);
+        }
+    }
+
     /// How long to wait, in milliseconds as `poll` takes them: -1 for ever.
     fn patience(&mut self, until: Option<u64>) -> i32 {
+        if !self.gone.is_empty() {
+            return 0;
+        }
         let now = self.now();
         let until = until.into_iter().chain(self.notify.next_moment()).min();
         until.map_or(-1, |moment| {
@@ -169,10 +209,11 @@ impl System for Linux {
             self.control.as_raw_fd(),
             self.ike.as_raw_fd(),
             self.esp.as_raw_fd(),
+            self.links.as_raw_fd(),
         ];
         let interfaces: Vec<(SiteKey, i32)> = inside
             .iter()
-            .filter_map(|site| Some((*site, self.inside.get(site)?.as_raw_fd())))
+            .filter_map(|site| Some((*site, self.inside.get(site)?.file.as_raw_fd())))
             .collect();
         let mut polled: Vec<PollFd> = descriptors
             .into_iter()
@@ -208,6 +249,10 @@ impl System for Linux {
         if told[0] {
             self.take_signals(&mut ready);
         }
+        if told[4] {
+            self.take_links();
+        }
+        ready.gone = std::mem::take(&mut self.gone).into_iter().collect();
         ready
     }
 
@@ -238,21 +283,30 @@ impl System for Linux {
         calls::path_mtu(&socket)
     }
 
+    fn heed_path_mtu(&mut self, heeds: bool) -> io::Result<()> {
+        calls::heed_path_mtu(&self.esp, heeds)
+    }
+
     fn open_inside(&mut self, site: SiteKey, tun: &Tun) -> io::Result<Offloads> {
-        self.inside.remove(&site);
+        self.close_inside(site);
         let (file, offloads) = calls::open_tun(&tun.name)?;
+        let index = calls::index_of(&tun.name)?;
         interface::set_up(tun)?;
-        self.inside.insert(site, file);
+        // Until it was set up it was down, and that was told too. It is of no account, so it
+        // is taken before the interface is one of ours; what is told of others is kept.
+        self.take_links();
+        self.inside.insert(site, Interface { file, index });
         Ok(offloads)
     }
 
     fn close_inside(&mut self, site: SiteKey) {
         self.inside.remove(&site);
+        self.gone.remove(&site);
     }
 
     fn read_inside(&mut self, site: SiteKey, buffer: &mut [u8]) -> io::Result<usize> {
         match self.inside.get_mut(&site) {
-            Some(file) => file.read(buffer),
+            Some(interface) => interface.file.read(buffer),
             None => Err(io::Error::from(io::ErrorKind::NotConnected)),
         }
     }
@@ -260,7 +314,7 @@ impl System for Linux {
     fn write_inside(&mut self, site: SiteKey, octets: &[u8]) -> io::Result<()> {
         match self.inside.get_mut(&site) {
             // The device takes a packet whole or not at all.
-            Some(file) => file.write(octets).map(|_| ()),
+            Some(interface) => interface.file.write(octets).map(|_| ()),
             None => Err(io::Error::from(io::ErrorKind::NotConnected)),
         }
     }

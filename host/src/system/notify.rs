@@ -4,6 +4,10 @@ use std::env;
 use std::io;
 use std::os::linux::net::SocketAddrExt;
 use std::os::unix::net::{SocketAddr, UnixDatagram};
+use std::time::Duration;
+
+/// How long systemd is waited for, where its queue is full.
+const PATIENCE: Duration = Duration::from_secs(5);
 
 /// The way to systemd, and its watchdog.
 #[derive(Debug)]
@@ -44,6 +48,23 @@ impl Notify {
         }
     }
 
+    /// Tells something that isn't told again: it waits where systemd's queue is full.
+    pub(super) fn tell_surely(&self, words: &str) {
+        let Some((socket, address)) = &self.way else {
+            return;
+        };
+        let waiting = socket
+            .set_write_timeout(Some(PATIENCE))
+            .and_then(|()| socket.set_nonblocking(false));
+        if waiting.is_ok() {
+            let _ = socket.send_to_addr(words.as_bytes(), address);
+        } else {
+            self.tell(words);
+        }
+        // Where this fails, each later word may wait so long, and no longer.
+        let _ = socket.set_nonblocking(true);
+    }
+
     /// When the watchdog is to be told next.
     pub(super) fn next_moment(&self) -> Option<u64> {
         Some(self.told_at + self.interval?)
@@ -62,5 +83,47 @@ fn address(name: &str) -> io::Result<SocketAddr> {
     match name.strip_prefix('@') {
         Some(name) => SocketAddr::from_abstract_name(name),
         None => SocketAddr::from_pathname(name),
+    }
+}
+
+#[cfg(test)]
+mod tests {
+    use super::{address, Notify, UnixDatagram};
+    use std::thread;
+    use std::time::Duration;
+
+    #[test]
+    fn ready_is_told_where_the_queue_is_full() {
+        let name = format!("@sukperind-notify-{}", std::process::id());
+        let way = address(&name).unwrap();
+        let systemd = UnixDatagram::bind_addr(&way).unwrap();
+        systemd
+            .set_read_timeout(Some(Duration::from_secs(20)))
+            .unwrap();
+        let socket = UnixDatagram::unbound().unwrap();
+        socket.set_nonblocking(true).unwrap();
+        let mut queued = 0;
+        while socket.send_to_addr(b"x", &way).is_ok() {
+            queued += 1;
+        }
+        let notify = Notify {
+            way: Some((socket, way)),
+            interval: None,
+            told_at: 0,
+        };
+        // What isn't worth waiting for is lost.
+        notify.tell("WATCHDOG=1");
+        let reader = thread::spawn(move || {
+            thread::sleep(Duration::from_millis(20));
+            let mut room = [0; 20];
+            let mut last = String::new();
+            for _ in 0..=queued {
+                let length = systemd.recv(&mut room).unwrap();
+                last = String::from_utf8_lossy(&room[..length]).into_owned();
+            }
+            last
+        });
+        notify.tell_surely("READY=1");
+        assert_eq!(reader.join().unwrap(), "READY=1");
     }
 }

@@ -27,6 +27,8 @@ thread_local! {
     static CALLS: RefCell<Vec<Call>> = const { RefCell::new(Vec::new()) };
     /// Whether no gateway can be made.
     static CLOSED: RefCell<bool> = const { RefCell::new(false) };
+    /// Whether each end declines the other's identity.
+    static DECLINES: RefCell<bool> = const { RefCell::new(false) };
 }
 
 /// Takes the calls that were made so far.
@@ -37,6 +39,11 @@ pub fn take_calls() -> Vec<Call> {
 /// Lets the core make no gateway, or make them again.
 pub fn close(closed: bool) {
     CLOSED.with(|value| *value.borrow_mut() = closed);
+}
+
+/// Lets each core decline the other's identity, or take it again.
+pub fn decline(declines: bool) {
+    DECLINES.with(|value| *value.borrow_mut() = declines);
 }
 
 fn note(call: Call) {
@@ -134,7 +141,24 @@ impl Core for Double {
         let octets = answer
             .map(|answer| self.octets(&answer))
             .unwrap_or_default();
+        let declines = DECLINES.with(|declines| *declines.borrow());
         match came {
+            Came::Counted { ike, .. } if declines => {
+                self.model.close(self.now, ike);
+                Outcome::Counted {
+                    ike,
+                    child: None,
+                    closed: true,
+                }
+            }
+            Came::Admitted { ike, .. } if declines => {
+                self.model.close(self.now, ike);
+                Outcome::Reply {
+                    octets,
+                    child: None,
+                    closed: Some(ike),
+                }
+            }
             Came::Dropped => Outcome::Refused { code: 28 },
             Came::Continued => Outcome::Request { ike: 0, octets },
             Came::Counted { ike, child, closed } => Outcome::Counted { ike, child, closed },

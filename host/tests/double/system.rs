@@ -19,6 +19,8 @@ pub struct Faults {
     pub room: Option<usize>,
     /// The longest ESP packet that the path takes, with its outer header.
     pub path: Option<u16>,
+    /// What the kernel was made to believe of the path, by a forged message.
+    pub forged: Option<u16>,
     /// Errors of reading the interface.
     pub read_inside: Option<i32>,
     /// Errors of writing it.
@@ -41,7 +43,11 @@ pub struct Fake {
     pub inside_out: Vec<Vec<u8>>,
     pub inside: BTreeMap<SiteKey, Tun>,
     pub opened: u32,
+    /// Whether the kernel's idea of the path is heeded.
+    pub heeds: bool,
     pub log: Vec<String>,
+    /// The lines of the log that are warnings, by their places.
+    pub warnings: Vec<usize>,
     pub configuration: Result<Config, String>,
     pub status: Option<String>,
     /// What happens at each wait; after it there is a signal to end.
@@ -63,7 +69,9 @@ impl Fake {
             inside_out: Vec::new(),
             inside: BTreeMap::new(),
             opened: 0,
+            heeds: true,
             log: Vec::new(),
+            warnings: Vec::new(),
             configuration: Err("no file".to_string()),
             status: None,
             script: VecDeque::new(),
@@ -84,6 +92,12 @@ impl Fake {
 
     pub fn logged(&self, words: &str) -> usize {
         self.log.iter().filter(|line| line.contains(words)).count()
+    }
+
+    /// How many lines with these words are warnings.
+    pub fn warned(&self, words: &str) -> usize {
+        let warnings = self.warnings.iter().map(|place| &self.log[*place]);
+        warnings.filter(|line| line.contains(words)).count()
     }
 }
 
@@ -168,8 +182,9 @@ impl System for Fake {
             return Err(io::Error::from_raw_os_error(libc::ENOBUFS));
         }
         let fits = |packet: &&EspPacket| {
-            let path = usize::from(self.faults.path.unwrap_or(u16::MAX));
-            packet.place.len() + 20 <= path
+            let forged = self.faults.forged.filter(|_| self.heeds);
+            let path = forged.or(self.faults.path).unwrap_or(u16::MAX);
+            packet.place.len() + 20 <= usize::from(path)
         };
         let run: Vec<(u8, Vec<u8>)> = list
             .iter()
@@ -189,12 +204,27 @@ impl System for Fake {
     }
 
     fn path_mtu(&mut self, _: Ipv4Addr) -> io::Result<u16> {
-        Ok(self.faults.path.unwrap_or(1_500))
+        Ok(self.faults.forged.or(self.faults.path).unwrap_or(1_500))
+    }
+
+    fn heed_path_mtu(&mut self, heeds: bool) -> io::Result<()> {
+        self.heeds = heeds;
+        Ok(())
     }
 
     fn open_inside(&mut self, site: SiteKey, tun: &Tun) -> io::Result<Offloads> {
         if self.faults.open_inside {
             return Err(io::Error::from_raw_os_error(libc::EBUSY));
+        }
+        // As Linux has it: one holder of a name, and one route to a network.
+        self.inside.remove(&site);
+        for held in self.inside.values() {
+            if held.name == tun.name {
+                return Err(io::Error::from_raw_os_error(libc::EBUSY));
+            }
+            if tun.routes.iter().any(|route| held.routes.contains(route)) {
+                return Err(io::Error::from_raw_os_error(libc::EEXIST));
+            }
         }
         self.opened += 1;
         self.inside.insert(site, tun.clone());
@@ -233,7 +263,10 @@ impl System for Fake {
 
     fn alive(&mut self) {}
 
-    fn log(&mut self, _: Level, line: &str) {
+    fn log(&mut self, level: Level, line: &str) {
+        if level == Level::Warning {
+            self.warnings.push(self.log.len());
+        }
         self.log.push(line.to_string());
     }
 }

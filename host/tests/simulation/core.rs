@@ -263,7 +263,7 @@ impl Core {
         (again, closed)
     }
 
-    fn close(&mut self, now: u64, serial: u32) {
+    pub fn close(&mut self, now: u64, serial: u32) {
         if let Some(ike) = self.associations.get_mut(&serial) {
             ike.phase = Phase::Closed;
             ike.waiting.clear();
