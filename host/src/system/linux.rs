@@ -338,10 +338,12 @@ impl System for Linux {
             Level::Warning => (4, "warning: "),
             Level::Info => (6, ""),
         };
-        // Nothing is done about a log that can't be written.
-        let _ = match self.for_journal {
-            true => writeln!(io::stderr(), "<{number}>{line}"),
-            false => writeln!(io::stderr(), "{word}{line}"),
+        let line = match self.for_journal {
+            true => format!("<{number}>{line}\n"),
+            false => format!("{word}{line}\n"),
         };
+        // In one write, so that lines of two daemons stay apart. Nothing is
+        // done about a log that can't be written.
+        let _ = io::stderr().write_all(line.as_bytes());
     }
 }
