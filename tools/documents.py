@@ -44,6 +44,7 @@ FIGURES = [
 QUOTED = [
     ("README.md", "sealed 5 child 1 number 1 length 48", "examples/two.out"),
     ("docs/FORMATS.md", "$ gw show examples/cookie.hex", "examples/cookie.shown"),
+    ("docs/EMBEDDING.md", "from sukperin import Counted, Entry, Gateway, Refusal, Reply, Request, Sealed", "bindings/python/examples/exchange.py"),
 ]
 
 

@@ -1,6 +1,6 @@
 """Two gateways come to an IKE SA, step by step. One datagram comes damaged first.
 
-    SUKPERIN_LIB=PREFIX/lib python3 examples/exchange.py
+    SUKPERIN_LIB=PREFIX/lib PYTHONPATH=bindings/python python3 bindings/python/examples/exchange.py
 """
 
 from sukperin import Counted, Entry, Gateway, Refusal, Reply, Request, Sealed

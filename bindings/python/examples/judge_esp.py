@@ -1,6 +1,6 @@
 """Judges ESP packets of another stack under a key that is known. Here the other stack is Python's own hmac.
 
-    SUKPERIN_LIB=PREFIX/lib python3 examples/judge_esp.py
+    SUKPERIN_LIB=PREFIX/lib PYTHONPATH=bindings/python python3 bindings/python/examples/judge_esp.py
 """
 
 import hashlib

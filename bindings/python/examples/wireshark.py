@@ -1,7 +1,8 @@
 """Two gateways come to an IKE SA, and Wireshark is told its keys: the messages go to a file, and what is printed is a line of Wireshark's
 table of IKEv2 keys (Preferences, Protocols, ISAKMP).
 
-    SUKPERIN_LIB=PREFIX/lib python3 examples/wireshark.py exchange.pcap >line
+    export SUKPERIN_LIB=PREFIX/lib PYTHONPATH=bindings/python
+    python3 bindings/python/examples/wireshark.py exchange.pcap >line
     tshark -r exchange.pcap -o "uat:ikev2_decryption_table:$(cat line)" -V
 
 Keys are secrets. Only a gateway that was made with `tells_keys` tells them.
