@@ -45,7 +45,7 @@ enum {
     SUK_E_ROOM = 103,    /* the room is shorter than what may have to be written */
     SUK_E_CONFIG = 104,  /* an identity hasn't 1 to 256 octets, the window isn't 1 to 16, or the blocks no power of two from 2 to 128 */
     SUK_E_NULL = 105,    /* of the sukperin_* functions alone: a null pointer, or a length above PTRDIFF_MAX */
-    SUK_E_POLICY = 106,  /* an entry of the policy is at fault */
+    SUK_E_POLICY = 106,  /* more than 256 entries, a family or an action that is none, or a range that ends before it begins */
     SUK_E_SPI = 107,     /* an SPI below 256, or a first SPI above 2^32 - 65,536 */
     SUK_E_NOTHING = 108, /* there is no such thing to tell */
     SUK_E_PLACE = 109    /* a packet's place isn't in the buffer */
@@ -123,6 +123,7 @@ typedef struct {
     uint8_t protocol; /* 0: any */
     uint8_t action;
     uint8_t reserved; /* 0 */
+    /* All ports, and protocols that have none: 0 to 65535. 0 to 0 is taken too, and holds hardly a packet. */
     uint16_t local_start_port, local_end_port, remote_start_port, remote_end_port;
     uint8_t local_start[16], local_end[16], remote_start[16], remote_end[16]; /* an address of IPv4: the first four octets */
 } suk_entry;
@@ -133,14 +134,14 @@ typedef struct {
     uint8_t nonce[32], secret[32], seal[16];
 } suk_fresh;
 
-/* What comes of an input (docs/OPERATING.md says what the host does then). */
+/* What comes of an input (docs/EMBEDDING.md, Outputs, says what the host does then). */
 enum {
     SUK_REPLY = 1, /* one message, the answer to a request: to where it came from. ike where it is under keys, child it made, closed */
-    SUK_REPEAT,    /* one message, the answer of before to a retransmission */
+    SUK_REPEAT,    /* one message, the answer of before to a retransmission. ike where it is under keys */
     SUK_REQUEST,   /* one message to the peer. ike */
     SUK_COUNTED,   /* a response was counted. ike; child that it made; closed */
     SUK_TICKED,    /* messages that go out again, and closings */
-    SUK_DONE,      /* a command was carried out */
+    SUK_DONE,      /* cookies are made under the new secret */
     SUK_UP,        /* a packet goes up, inside: a part of the packet that came. child, number */
     SUK_DUMMY,     /* an ESP packet carried nothing. child, number */
     SUK_SEALED,    /* an ESP packet to the peer, in the room. child, number */
@@ -243,7 +244,8 @@ uint32_t suk_delete_ike(suk_gateway *, uint32_t ike, const suk_fresh *, suk_outp
 /* The command to make cookies under another secret. The one before stays good. */
 uint32_t suk_secret(suk_gateway *, const uint8_t secret[32], suk_output *);
 
-/* The time. An earlier moment counts as the greatest so far. */
+/* The time. An earlier moment counts as the greatest so far. To be told before each command and each datagram of IKE too: a request counts
+ * from the last moment before it. */
 uint32_t suk_tick(suk_gateway *, uint64_t moment, suk_output *);
 
 /* When suk_tick is due next. 101; 108 where nothing will ever be due. */
@@ -264,7 +266,8 @@ uint32_t suk_esp_all(suk_gateway *, const uint8_t *octets, size_t, const suk_pla
 /* Whole IP packets on their way out, each in its place in one buffer: as so many calls of suk_outward in their order. Sealed packets lie
  * one behind the other in the room from its beginning: a record's offset and length say where. A packet for which fewer than
  * SUK_ROOM(length) octets of the room are left is refused alone: SUK_REFUSED, code 103; one whose place isn't in the buffer with code 109.
- * 101; 103, and nothing is done, where there are fewer records than places. */
+ * A room of as many octets as SUK_ROOM of all lengths together is enough. Where memory runs out, more packets of the list may be refused
+ * (code 20) than by single calls. 101; 103, and nothing is done, where there are fewer records than places. */
 uint32_t suk_outward_all(suk_gateway *, const uint8_t *octets, size_t, const suk_place *, size_t, uint8_t *room, size_t, suk_output *,
                          size_t);
 
@@ -296,13 +299,24 @@ uint32_t suk_keys(suk_gateway *, uint32_t ike, suk_keys_told *);
 
 /* ---- The same calls, with null and lengths looked at ---- */
 
-/* A null pointer is no fault where the length is 0. */
+/* A null pointer is no fault where the length or the count of records is 0. */
 static inline bool suk_is_bad(const void *at, size_t length) { return (at == NULL && length != 0) || length > PTRDIFF_MAX; }
 
 /* The library is given no null pointer, even without octets. */
 static inline const uint8_t *suk_some(const uint8_t *at) {
     static const uint8_t nothing[1] = {0};
     return at != NULL ? at : nothing;
+}
+
+/* Nor one to write to, even without room. */
+static inline uint8_t *suk_some_room(uint8_t *at) {
+    static uint8_t nothing[1];
+    return at != NULL ? at : nothing;
+}
+
+static inline suk_output *suk_some_records(suk_output *at) {
+    static suk_output nothing;
+    return at != NULL ? at : &nothing;
 }
 
 typedef struct {
@@ -392,28 +406,28 @@ static inline uint32_t sukperin_esp(suk_gateway *gateway, const uint8_t *packet,
 
 static inline uint32_t sukperin_outward(suk_gateway *gateway, const uint8_t *packet, size_t length, uint8_t *room, size_t room_length,
                                         suk_output *output) {
-    if (gateway == NULL || suk_is_bad(packet, length) || room == NULL || suk_is_bad(room, room_length) || output == NULL)
+    if (gateway == NULL || suk_is_bad(packet, length) || suk_is_bad(room, room_length) || output == NULL)
         return SUK_E_NULL;
-    return suk_outward(gateway, suk_some(packet), length, room, room_length, output);
+    return suk_outward(gateway, suk_some(packet), length, suk_some_room(room), room_length, output);
 }
 
 static inline uint32_t sukperin_esp_all(suk_gateway *gateway, const uint8_t *octets, size_t length, const suk_place *places, size_t count,
                                         suk_output *outputs, size_t records) {
     static const suk_place no_place = {0, 0};
     if (gateway == NULL || suk_is_bad(octets, length) || suk_is_bad(places, count) || count > PTRDIFF_MAX / sizeof(suk_place) ||
-        outputs == NULL || records > PTRDIFF_MAX / sizeof(suk_output))
+        suk_is_bad(outputs, records) || records > PTRDIFF_MAX / sizeof(suk_output))
         return SUK_E_NULL;
-    return suk_esp_all(gateway, suk_some(octets), length, places != NULL ? places : &no_place, count, outputs, records);
+    return suk_esp_all(gateway, suk_some(octets), length, places != NULL ? places : &no_place, count, suk_some_records(outputs), records);
 }
 
 static inline uint32_t sukperin_outward_all(suk_gateway *gateway, const uint8_t *octets, size_t length, const suk_place *places,
                                             size_t count, uint8_t *room, size_t room_length, suk_output *outputs, size_t records) {
     static const suk_place no_place = {0, 0};
     if (gateway == NULL || suk_is_bad(octets, length) || suk_is_bad(places, count) || count > PTRDIFF_MAX / sizeof(suk_place) ||
-        room == NULL || suk_is_bad(room, room_length) || outputs == NULL || records > PTRDIFF_MAX / sizeof(suk_output))
+        suk_is_bad(room, room_length) || suk_is_bad(outputs, records) || records > PTRDIFF_MAX / sizeof(suk_output))
         return SUK_E_NULL;
-    return suk_outward_all(gateway, suk_some(octets), length, places != NULL ? places : &no_place, count, room, room_length, outputs,
-                           records);
+    return suk_outward_all(gateway, suk_some(octets), length, places != NULL ? places : &no_place, count, suk_some_room(room),
+                           room_length, suk_some_records(outputs), records);
 }
 
 static inline uint32_t sukperin_inward(suk_gateway *gateway, const uint8_t *packet, size_t length, suk_output *output) {
@@ -423,9 +437,9 @@ static inline uint32_t sukperin_inward(suk_gateway *gateway, const uint8_t *pack
 }
 
 static inline uint32_t sukperin_message(suk_gateway *gateway, uint64_t place, uint8_t *room, size_t length, suk_message_told *told) {
-    if (gateway == NULL || room == NULL || suk_is_bad(room, length) || told == NULL)
+    if (gateway == NULL || suk_is_bad(room, length) || told == NULL)
         return SUK_E_NULL;
-    return suk_message(gateway, place, room, length, told);
+    return suk_message(gateway, place, suk_some_room(room), length, told);
 }
 
 static inline uint32_t sukperin_closing(suk_gateway *gateway, uint64_t place, uint32_t *ike) {
@@ -447,9 +461,10 @@ static inline uint32_t sukperin_selector(suk_gateway *gateway, uint32_t child, b
 }
 
 static inline uint32_t sukperin_associations(suk_gateway *gateway, suk_ike_association *room, size_t records, uint64_t *count) {
-    if (gateway == NULL || room == NULL || records > PTRDIFF_MAX / sizeof(suk_ike_association) || count == NULL)
+    static suk_ike_association nothing;
+    if (gateway == NULL || suk_is_bad(room, records) || records > PTRDIFF_MAX / sizeof(suk_ike_association) || count == NULL)
         return SUK_E_NULL;
-    return suk_associations(gateway, room, records, count);
+    return suk_associations(gateway, room != NULL ? room : &nothing, records, count);
 }
 
 static inline uint32_t sukperin_keys(suk_gateway *gateway, uint32_t ike, suk_keys_told *told) {
@@ -472,9 +487,9 @@ static inline uint32_t sukperin_receiver(suk_association *end, uint32_t spi, con
 
 static inline uint32_t sukperin_seal(suk_association *end, uint8_t next, const uint8_t *payload, size_t length, uint8_t *room,
                                      size_t room_length, suk_sealed *told) {
-    if (end == NULL || suk_is_bad(payload, length) || room == NULL || suk_is_bad(room, room_length) || told == NULL)
+    if (end == NULL || suk_is_bad(payload, length) || suk_is_bad(room, room_length) || told == NULL)
         return SUK_E_NULL;
-    return suk_seal(end, next, suk_some(payload), length, room, room_length, told);
+    return suk_seal(end, next, suk_some(payload), length, suk_some_room(room), room_length, told);
 }
 
 static inline uint32_t sukperin_open(suk_association *end, const uint8_t *packet, size_t length, suk_opened *told) {

@@ -56,6 +56,7 @@ static void associations_look_at_null(void) {
     EXPECT(sukperin_seal(&end, 4, KEY, SIZE_MAX, room, sizeof room, &sealed), SUK_E_NULL);
     EXPECT(sukperin_seal(&end, 4, KEY, 4, NULL, 64, &sealed), SUK_E_NULL);
     EXPECT(sukperin_seal(&end, 4, KEY, 4, room, SIZE_MAX, &sealed), SUK_E_NULL);
+    EXPECT(sukperin_seal(&end, 4, KEY, 4, NULL, 0, &sealed), SUK_E_ROOM);
     EXPECT(sukperin_seal(&end, 4, KEY, 4, room, sizeof room, NULL), SUK_E_NULL);
     EXPECT(sukperin_seal(&end, 59, NULL, 0, room, sizeof room, &sealed), SUK_OK);
     EXPECT(sukperin_open(NULL, room, sealed.length, &opened), SUK_E_NULL);
@@ -405,8 +406,15 @@ static void null_is_refused(void) {
     EXPECT(sukperin_child_after(NULL, 0, &child), SUK_E_NULL);
     EXPECT(sukperin_selector(gateway, 1, 0, 0, NULL), SUK_E_NULL);
     EXPECT(sukperin_selector(NULL, 1, 0, 0, &selector), SUK_E_NULL);
-    EXPECT(sukperin_associations(gateway, NULL, 0, &count), SUK_E_NULL);
+    EXPECT(sukperin_associations(gateway, NULL, 1, &count), SUK_E_NULL);
     EXPECT(sukperin_associations(gateway, &association, 1, NULL), SUK_E_NULL);
+    /* Without a length null is a pointer as any other. */
+    EXPECT(sukperin_associations(gateway, NULL, 0, &count), SUK_OK);
+    EXPECT(count, 0);
+    EXPECT(sukperin_message(gateway, 0, NULL, 0, &message), SUK_E_NOTHING);
+    EXPECT(sukperin_outward(gateway, KEY, 4, NULL, 0, &output), SUK_E_ROOM);
+    EXPECT(sukperin_esp_all(gateway, NULL, 0, NULL, 0, NULL, 0), SUK_OK);
+    EXPECT(sukperin_outward_all(gateway, NULL, 0, NULL, 0, NULL, 0, NULL, 0), SUK_OK);
     sukperin_end(gateway);
 }
 
@@ -922,7 +930,7 @@ static void tables(void) {
     EXPECT(sukperin_associations(&b.gateway, room, 4, &count), SUK_OK);
     EXPECT(room[0].role, 2);
     count = 0;
-    EXPECT(sukperin_associations(&a.gateway, room, 0, &count), SUK_E_ROOM);
+    EXPECT(sukperin_associations(&a.gateway, NULL, 0, &count), SUK_E_ROOM);
     EXPECT(count, 1);
     close_both(&a, &b);
 }

@@ -13,7 +13,6 @@ def main() -> None:
     right = Gateway(own="right.example", peer="left.example", psk=SECRET, policy=[Entry("10.1.0.0/24", "10.0.0.0/24")])
 
     first = left.start()
-    assert isinstance(first, Request)
     print(f"IKE_SA_INIT request, {len(first.message)} octets")
     answer = right.ike(first.message)
     assert isinstance(answer, Reply)

@@ -5,7 +5,8 @@
     request = a.start()            # a Request: request.message goes to the peer's UDP port 500
 
 A `Gateway` is one end with one peer. Each input gives one of the outputs in `sukperin.outputs`, or raises: `Dropped` and `Refused` with
-the number (E1 to E39) and its text where the core says so, `CallFault` where the call itself can't be used.
+the number (E1 to E39) and its text where the core says so, `CallFault` where the call itself can't be used. What an argument can't be (a
+number out of its range, no address, octets of a wrong length) is a `ValueError`. Octets are `bytes`, `bytearray` or `memoryview`.
 
 `Outbound` and `Inbound` are the two ends of one ESP SA under a key that is given, to judge captured packets.
 

@@ -90,7 +90,7 @@ class KeysRecord(Structure):
 
 NUMBERS = (c_uint8, c_uint32, c_uint64, c_size_t)
 
-# Octets that are read are given as `bytes`, and each is followed by its length; lists of records are followed by their count.
+# Octets that are read are each followed by their length; lists of records are followed by their count.
 CALLS: "dict[str, tuple[Any, list[Any]]]" = {
     "suk_sender": (c_uint32, [POINTER(AssociationHandle), c_uint32, c_char_p, c_uint8, c_uint64]),
     "suk_receiver": (c_uint32, [POINTER(AssociationHandle), c_uint32, c_char_p, c_uint8, c_uint32]),
@@ -131,13 +131,25 @@ def in_range(value: int, limit: int) -> int:
     return value
 
 
-# ctypes itself would cut a number that is too great.
+def of_length(value: bytes, length: int, what: str) -> bytes:
+    """The value itself, if it has so many octets."""
+    if len(value) != length:
+        raise ValueError(f"{what} has {length} octets, and not {len(value)}")
+    return value
+
+
+# ctypes itself would cut a number that is too great, and takes `bytes` alone for octets.
 def _checked(function: Any, parameters: "list[Any]") -> "Callable[..., Any]":
     limits = [(place, 1 << 8 * ctypes.sizeof(kind)) for place, kind in enumerate(parameters) if kind in NUMBERS]
+    octets = [place for place, kind in enumerate(parameters) if kind is c_char_p]
 
-    def call(*words: Any) -> Any:
+    def call(*given: Any) -> Any:
+        words = list(given)
         for place, limit in limits:
             in_range(words[place], limit)
+        for place in octets:
+            if not isinstance(words[place], bytes):
+                words[place] = bytes(memoryview(words[place]))
         return function(*words)
 
     return call
@@ -146,7 +158,10 @@ def _checked(function: Any, parameters: "list[Any]") -> "Callable[..., Any]":
 def _load() -> SimpleNamespace:
     folder = os.environ.get("SUKPERIN_LIB")
     name = "libsukperin.so.1"
-    library = ctypes.CDLL(os.path.join(folder, name) if folder else name)
+    try:
+        library = ctypes.CDLL(os.path.join(folder, name) if folder else name)
+    except OSError as error:
+        raise OSError(f"{error}: SUKPERIN_LIB names the folder of {name}, unless the system knows it") from error
     calls = {}
     for call, (answer, parameters) in CALLS.items():
         function = getattr(library, call)

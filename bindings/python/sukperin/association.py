@@ -37,8 +37,7 @@ class _End:
 
     def __init__(self, key: bytes) -> None:
         self._handle = _library.AssociationHandle()
-        if len(key) != 32:
-            raise ValueError("a key has 32 octets")
+        _library.of_length(key, 32, "a key")
 
     def close(self) -> None:
         """Overwrites and frees it; the key that was given to it stays the caller's. Any call after that raises 101."""
@@ -83,4 +82,4 @@ class Inbound(_End):
         number stays taken."""
         told = _library.OpenedRecord()
         check(LIBRARY.suk_open(byref(self._handle), packet, len(packet), byref(told)))
-        return Opened(told.number, told.next, packet[told.offset : told.offset + told.length])
+        return Opened(told.number, told.next, bytes(packet[told.offset : told.offset + told.length]))

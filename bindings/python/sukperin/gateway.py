@@ -6,7 +6,7 @@ import secrets
 from ctypes import byref
 from ipaddress import IPv4Address
 from types import TracebackType
-from typing import List, Optional, Sequence, Tuple, Type, Union
+from typing import List, Optional, Sequence, Tuple, Type, TypeVar, Union
 
 from . import _library
 from ._library import LIBRARY
@@ -20,13 +20,15 @@ from .tables import Association, Child, Keys, Selector
 MESSAGE_ROOM = 3000
 ASSOCIATION_ROOM = 256
 
+One = TypeVar("One", Request, Ticked, Done)
+
 
 class Gateway:
-    """One end, with one peer.
+    """One end, with one peer. `with Gateway(..) as gateway` closes it at the end.
 
-    `own` and `peer` are identities: a name, an address of mail, an IP address, or an `Identity`. `psk` is the secret of both ends, unless
-    `peer_psk` is another one for the peer. Only one with `tells_keys` answers `keys`. Raises `CallFault` with 104 (an identity, the window
-    or the blocks), 106 (the policy) or 107 (the first SPI).
+    `own` and `peer` are identities: a name, an address of mail, an address of `ipaddress`, or an `Identity`. A text is a name, even one
+    like "192.0.2.1". `psk` is the secret of both ends, unless `peer_psk` is another one for the peer. Only one with `tells_keys`
+    answers `keys`. Raises `CallFault` with 104 (an identity, the window or the blocks), 106 (the policy) or 107 (the first SPI).
     """
 
     def __init__(
@@ -55,18 +57,19 @@ class Gateway:
             own_kind=own_identity.kind, peer_kind=peer_identity.kind, extended=extended, window=window, blocks=blocks, first_spi=first_spi,
             tells_keys=tells_keys)
         terms.own_address[:], terms.peer_address[:] = IPv4Address(own_address).packed, self._peer_address
-        terms.cookie_secret[:] = cookie_secret if cookie_secret is not None else secrets.token_bytes(32)
+        terms.cookie_secret[:] = _cookie_secret(secrets.token_bytes(32) if cookie_secret is None else cookie_secret)
         entries = (_library.EntryRecord * len(policy))(*(entry.record() for entry in policy))
         peer_secret = psk if peer_psk is None else peer_psk
         check(LIBRARY.suk_new(
             byref(self._handle), byref(terms), own_identity.data, len(own_identity.data), peer_identity.data, len(peer_identity.data),
             psk, len(psk), peer_secret, len(peer_secret), entries, len(policy)))
 
-    def start(self, entry: int = 0, *, ike: Optional[int] = None, fresh: Optional[Fresh] = None) -> Output:
-        """The command to ask for a Child SA by an entry of the policy: with a new IKE SA, or as an additional one of `ike`."""
+    def start(self, entry: int = 0, *, ike: Optional[int] = None, fresh: Optional[Fresh] = None) -> Request:
+        """The command to ask for a Child SA by an entry of the policy: with a new IKE SA where `ike` is None or 0, else as an additional
+        one of that IKE SA."""
         output = _library.OutputRecord()
         check(LIBRARY.suk_start(byref(self._handle), ike or 0, entry, _fresh(fresh), byref(output)))
-        return self._output(output)
+        return self._only(Request, output)
 
     def ike(self, datagram: bytes, *, source: Optional[str] = None, fresh: Optional[Fresh] = None) -> Output:
         """A datagram of IKE that came, from the peer's address if `source` is no other one."""
@@ -75,37 +78,36 @@ class Gateway:
         check(LIBRARY.suk_ike(byref(self._handle), address, datagram, len(datagram), _fresh(fresh), byref(output)))
         return self._output(output)
 
-    def probe(self, ike: int, *, fresh: Optional[Fresh] = None) -> Output:
+    def probe(self, ike: int, *, fresh: Optional[Fresh] = None) -> Request:
         """The command to ask the peer of an IKE SA whether it is there."""
         output = _library.OutputRecord()
         check(LIBRARY.suk_probe(byref(self._handle), ike, _fresh(fresh), byref(output)))
-        return self._output(output)
+        return self._only(Request, output)
 
-    def delete_child(self, child: int, *, fresh: Optional[Fresh] = None) -> Output:
+    def delete_child(self, child: int, *, fresh: Optional[Fresh] = None) -> Request:
         """The command to delete a Child SA."""
         output = _library.OutputRecord()
         check(LIBRARY.suk_delete_child(byref(self._handle), child, _fresh(fresh), byref(output)))
-        return self._output(output)
+        return self._only(Request, output)
 
-    def delete_ike(self, ike: int, *, fresh: Optional[Fresh] = None) -> Output:
+    def delete_ike(self, ike: int, *, fresh: Optional[Fresh] = None) -> Request:
         """The command to delete an IKE SA with all its Child SAs."""
         output = _library.OutputRecord()
         check(LIBRARY.suk_delete_ike(byref(self._handle), ike, _fresh(fresh), byref(output)))
-        return self._output(output)
+        return self._only(Request, output)
 
-    def secret(self, secret: bytes) -> Output:
+    def secret(self, secret: bytes) -> Done:
         """The command to make cookies under another secret, of 32 octets."""
-        if len(secret) != 32:
-            raise ValueError("a secret of cookies has 32 octets")
         output = _library.OutputRecord()
-        check(LIBRARY.suk_secret(byref(self._handle), secret, byref(output)))
-        return self._output(output)
+        check(LIBRARY.suk_secret(byref(self._handle), _cookie_secret(secret), byref(output)))
+        return self._only(Done, output)
 
-    def tick(self, moment: int) -> Output:
-        """The time, in milliseconds from any beginning."""
+    def tick(self, moment: int) -> Ticked:
+        """The time, in milliseconds from any beginning. An earlier one counts as the greatest so far. To be told before each command and
+        each datagram of IKE too: a request counts from the last moment before it."""
         output = _library.OutputRecord()
         check(LIBRARY.suk_tick(byref(self._handle), moment, byref(output)))
-        return self._output(output)
+        return self._only(Ticked, output)
 
     def next_moment(self) -> Optional[int]:
         """When `tick` is due next; None where nothing will ever be due."""
@@ -206,6 +208,13 @@ class Gateway:
         check(LIBRARY.suk_closing(byref(self._handle), place, byref(ike)))
         return ike.value
 
+    # Of an input that has no other output, unless it is refused.
+    def _only(self, kind: Type[One], told: _library.OutputRecord) -> One:
+        output = self._output(told)
+        if not isinstance(output, kind):
+            raise CallFault(told.kind)
+        return output
+
     def _output(self, told: _library.OutputRecord, packet: bytes = b"", room: bytes = b"") -> Output:
         refusal = _refusal(told)
         if refusal is not None:
@@ -225,13 +234,13 @@ class Gateway:
         if kind == "DONE":
             return Done()
         if kind == "UP":
-            return Up(told.child, told.number, packet[told.offset : told.offset + told.length])
+            return Up(told.child, told.number, bytes(packet[told.offset : told.offset + told.length]))
         if kind == "DUMMY":
             return Dummy(told.child, told.number)
         if kind == "SEALED":
             return Sealed(told.child, told.number, room[told.offset : told.offset + told.length])
         if kind == "CLEAR":
-            return Clear(packet)
+            return Clear(bytes(packet))
         if kind == "DISCARDED":
             return Discarded()
         raise CallFault(told.kind)
@@ -249,6 +258,10 @@ def _listed(packets: Sequence[bytes]) -> "Tuple[bytes, int, ctypes.Array[_librar
     listed = (_library.PlaceRecord(offset=end - len(packet), length=len(packet)) for end, packet in zip(ends, packets))
     places = (_library.PlaceRecord * len(packets))(*listed)
     return octets, len(octets), places, len(packets)
+
+
+def _cookie_secret(secret: bytes) -> bytes:
+    return _library.of_length(secret, 32, "a secret of cookies")
 
 
 def _fresh(fresh: Optional[Fresh]) -> "ctypes._Pointer[_library.FreshRecord]":

@@ -95,5 +95,7 @@ class Fresh:
 
     def record(self) -> _library.FreshRecord:
         record = _library.FreshRecord(spi=_library.in_range(self.spi, 2**64))
-        record.nonce[:], record.secret[:], record.seal[:] = self.nonce, self.secret, self.seal
+        record.nonce[:] = _library.of_length(self.nonce, 32, "a nonce")
+        record.secret[:] = _library.of_length(self.secret, 32, "a secret of the key agreement")
+        record.seal[:] = _library.of_length(self.seal, 16, "what sealing takes")
         return record

@@ -79,11 +79,38 @@ class Gateways(unittest.TestCase):
         sealed = a.outward(inner)
         self.assertIsInstance(sealed, Sealed)
         self.assertEqual((sealed.child, sealed.number, len(sealed.packet)), (1, 1, 48))
-        self.refuses(18, b.esp, sealed.packet[:-1] + b"\0")
+        self.refuses(18, b.esp, sealed.packet[:-1] + bytes([sealed.packet[-1] ^ 1]))
         self.assertEqual(b.esp(sealed.packet), Up(1, 1, inner))
         self.refuses(16, b.esp, sealed.packet)
         self.refuses(28, b.esp, b"\xff" + sealed.packet[1:])
         self.assertEqual([(child.sent, child.taken) for child in a.children() + b.children()], [(1, 0), (0, 1)])
+
+    def test_octets_of_any_kind(self) -> None:
+        a, b = two()
+        answer = b.ike(bytearray(a.start().message))
+        carried(a.ike(memoryview(answer.message)), b, a)
+        inner = packet("10.0.0.1", "10.1.0.1")
+        sealed = a.outward(memoryview(inner))
+        up = b.esp(bytearray(sealed.packet))
+        self.assertEqual(up, Up(1, 1, inner))
+        self.assertIsInstance(up.packet, bytes)
+        listed = a.outward_all([bytearray(inner), memoryview(inner)])
+        self.assertEqual(b.esp_all([memoryview(it.packet) for it in listed]), [Up(1, 2, inner), Up(1, 3, inner)])
+        with self.assertRaises(TypeError):
+            b.esp("text")  # type: ignore[arg-type]
+        with self.assertRaises(TypeError):
+            b.esp(40)  # type: ignore[arg-type]
+
+    def test_lengths_are_told(self) -> None:
+        a, _ = two()
+        for given, said in (
+            (lambda: a.start(fresh=Fresh(nonce=b"short")), "a nonce has 32 octets, and not 5"),
+            (lambda: a.secret(bytes(31)), "a secret of cookies has 32 octets, and not 31"),
+            (lambda: gateway("a.example", "b.example", OWN, PEER, cookie_secret=b""), "a secret of cookies has 32 octets, and not 0"),
+        ):
+            with self.assertRaises(ValueError) as caught:
+                given()
+            self.assertEqual(str(caught.exception), said)
 
     def test_policy(self) -> None:
         a, _ = up()
