@@ -48,7 +48,13 @@ need() { # PROGRAM TOOL ..
     [ -x "$1" ] || skip_all "$1 isn't built"
     program=$(realpath "$1")
     shift
-    for tool; do command -v "$tool" >/dev/null || skip_all "$tool is missing"; done
+    for tool; do
+        case $tool in
+            ip) install ip iproute2 ;;
+            ping) install ping iputils-ping ;;
+            *) install "$tool" "$tool" ;;
+        esac
+    done
     # Without the core it says so; with it, it ends as well, since a configuration that isn't there is a fault.
     (umask 077 && echo secret >"$folder/none.secret")
     cat >"$folder/none.toml" <<END
