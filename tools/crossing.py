@@ -44,7 +44,10 @@ def main():
         subprocess.run(["cc", "-O2", f"-I{include}", ROOT / "bindings/c/crossing.c", library, "-o", crossing], check=True)
         ratios = {(length, way, beside): [] for length in LENGTHS for way in WAYS for beside in ("esp", "run")}
         for _ in range(5):
-            said = subprocess.run([crossing], check=True, capture_output=True, text=True).stdout
+            ran = subprocess.run([crossing], capture_output=True, text=True)
+            said = ran.stdout
+            if ran.returncode:
+                sys.exit(f"{said}{ran.stderr}crossing.py: crossing found what is said above")
             for line in re.findall(r"^\| (\d+ .*) \|$", said, re.M):
                 length, _, _, out, came, *_ = map(float, line.split(" | "))
                 words = ("200", "64", str(int(length)))
