@@ -220,9 +220,9 @@ impl<C: Sealer + Agreement + Proof> Gateway<C> {
         )
     }
 
-    /// Writes the ICV into each ESP packet of up to 64 outputs of [`lay`](Gateway::lay), computed side by side
-    /// where that is faster. Takes no memory. Whatever was laid meanwhile, and whichever packets came, the
-    /// outputs are those of as many steps; a packet whose SA pair was removed stays as it is.
+    /// Writes the ICV into each ESP packet of up to 64 outputs of [`lay`](Gateway::lay), computed side by
+    /// side where that is faster. Takes no memory. Whatever was laid meanwhile, and whichever packets came,
+    /// the outputs are those of as many steps; a packet whose SA pair was removed stays as it is.
     pub fn finish(&self, laid: &mut [Output<'_>])
         requires { length laid.old ≤ GROUP }
         ensures { laid.new ≡ finished_outputs self.now.table.pairs laid.old }
