@@ -2,8 +2,9 @@
 # The host's tests with the core, one after the other: unit, systemd, namespaces, flood, soak, real_peer and speed, or those that are named. It
 # takes some 20 minutes, and installs what is missing by apt-get. As root: sh host/tests/all.sh [PROGRAM [NAME ..]], of a program built with cargo's
 # feature `library`, by --release. It ends with how many passed, failed and were skipped.
+program=${1:+$(realpath "$1")} # before the folder is another one
 cd "$(dirname "$0")" || exit 2
-program=$(realpath "${1:-${CARGO_TARGET_DIR:-../target}/release/sukperind}")
+program=${program:-$(realpath "${CARGO_TARGET_DIR:-../target}/release/sukperind")}
 [ $# -gt 0 ] && shift
 [ $# -gt 0 ] || set -- unit systemd namespaces flood soak real_peer speed
 passed=0 failed=0 skipped=0

@@ -2,6 +2,7 @@
 # Garbage at full rate on UDP 500 and on protocol 50, from the peer's address and from another, beside two daemons with the core in two network
 # namespaces: nothing ends the daemon, its memory stays, the log stays short, and afterwards the link goes on.
 # As root: sh host/tests/flood.sh [PROGRAM] [SECONDS], of a program built with cargo's feature `library`. SECONDS are those of each of four floods.
+[ $# = 0 ] || set -- "$(realpath "$1")" # before the folder is another one
 cd "$(dirname "$0")" || exit 2
 . ./common.sh
 need "${1:-${CARGO_TARGET_DIR:-../target}/debug/sukperind}" ip ping python3

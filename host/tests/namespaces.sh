@@ -3,6 +3,7 @@
 # secret, a changed configuration, kills, an interface that goes and comes, a wire that is cut, a queue that overflows, how often an idle daemon
 # wakes. As root: sh host/tests/namespaces.sh [PROGRAM], of a program built with cargo's feature `library`
 # (SUKPERIN_LIB=FOLDER sh host/cargo.sh build --features library). It ends with how many passed, failed and were skipped.
+[ $# = 0 ] || set -- "$(realpath "$1")" # before the folder is another one
 cd "$(dirname "$0")" || exit 2
 . ./common.sh
 need "${1:-${CARGO_TARGET_DIR:-../target}/debug/sukperind}" ip ping python3

@@ -2,6 +2,7 @@
 # The daemon with the core beside strongSwan's charon over Linux's own ESP, which runs in a small guest of qemu, since not every kernel has ESP.
 # As root: sh host/tests/real_peer.sh [PROGRAM], of a program built with cargo's feature `library`. It installs what is missing by apt-get.
 # SUKPERIN_GUEST names a folder in which a guest that was built is kept. It takes about 5 minutes.
+[ $# = 0 ] || set -- "$(realpath "$1")" # before the folder is another one
 cd "$(dirname "$0")" || exit 2
 . ./common.sh
 need "${1:-${CARGO_TARGET_DIR:-../target}/debug/sukperind}" ip ping

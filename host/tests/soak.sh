@@ -3,6 +3,7 @@
 # random: SIGHUP with a changed configuration, SIGTERM, SIGKILL, both ends at once, an interface that is deleted. Child SAs are replaced each few
 # seconds. Afterwards both ends hold the same Child SAs, and no datagram arrived twice or damaged.
 # As root: sh host/tests/soak.sh [PROGRAM] [SECONDS] [SEED], of a program built with cargo's feature `library`.
+[ $# = 0 ] || set -- "$(realpath "$1")" # before the folder is another one
 cd "$(dirname "$0")" || exit 2
 . ./common.sh
 need "${1:-${CARGO_TARGET_DIR:-../target}/debug/sukperind}" ip ping python3

@@ -3,6 +3,7 @@
 # namespaces over one veth pair. Each round measures both and the bare pair, one after the other; at the end come the medians of the ratios.
 # As root: sh host/tests/speed.sh [PROGRAM] [ROUNDS] [SECONDS], of a program built with cargo's feature `library`, by --release, over the library at
 # x86-64-v3 where the processor has it. SECONDS are those of one measurement, of which a round has twelve.
+[ $# = 0 ] || set -- "$(realpath "$1")" # before the folder is another one
 cd "$(dirname "$0")" || exit 2
 . ./common.sh
 need "${1:-${CARGO_TARGET_DIR:-../target}/release/sukperind}" ip ping python3

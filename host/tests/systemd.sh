@@ -2,6 +2,7 @@
 # The daemon's unit under a real systemd, in a small guest of qemu (tests/guest.sh), with a peer here: start with READY, status, reload, watchdog,
 # stop with a deletion at the peer, a restart of what hangs. As root: sh host/tests/systemd.sh [PROGRAM], of a program built with cargo's feature
 # `library`. It installs what is missing by apt-get. SUKPERIN_GUEST names a folder in which the guest's kernel is kept. It takes about 3 minutes.
+[ $# = 0 ] || set -- "$(realpath "$1")" # before the folder is another one
 cd "$(dirname "$0")" || exit 2
 . ./common.sh
 need "${1:-${CARGO_TARGET_DIR:-../target}/debug/sukperind}" ip ping

@@ -1,6 +1,7 @@
 #!/bin/sh
 # The unit for systemd, by systemd's own tool, and whether its list of system calls lets through what the daemon calls from its start to its end.
 # As root: sh host/tests/unit.sh [PROGRAM], of a program built with cargo's feature `library`. systemd needn't run.
+[ $# = 0 ] || set -- "$(realpath "$1")" # before the folder is another one
 cd "$(dirname "$0")" || exit 2
 . ./common.sh
 need "${1:-${CARGO_TARGET_DIR:-../target}/debug/sukperind}" ip python3
