@@ -19,8 +19,8 @@ pub fn blocks_become_blocks()
     ensures decrypted { (key block : List ℕ) → IsKey key → IsBlock block → IsBlock (decrypted key block) }
 {}
 
-/// An octet times its inverse is 1, but for 0 (FIPS 197, section 4.4), and INVSBOX undoes SBOX, as SBOX undoes it
-/// (section 5.3.2).
+/// An octet times its inverse is 1, but for 0 (FIPS 197, section 4.4), and INVSBOX undoes SBOX, as SBOX
+/// undoes it (section 5.3.2).
 pub fn inverses_are_inverse()
     ensures product { (b : ℕ) → b < 256 → b ≢ 0 → times b (inverse b) ≡ 1 }
     ensures there { (b : ℕ) → b < 256 → inv_sub_byte (sub_byte b) ≡ b }

@@ -1,4 +1,5 @@
-//! The state of 16 octets, and the steps that work on it octet by octet (FIPS 197, sections 3.4, 5.1 and 5.3).
+//! The state of 16 octets, and the steps that work on it octet by octet (FIPS 197, sections 3.4, 5.1
+//! and 5.3).
 ghost use Rattle.std.specs.Prelude.{◌≡◌, ◌≤◌, ◌<◌, slice_index};
 ghost use Rattle.aes.specs.State.{add_round_key, cell, inv_shift_rows, inv_sub_bytes, shift_rows, sub_bytes};
 

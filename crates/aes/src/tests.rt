@@ -42,7 +42,8 @@ fn section_f_1_5(rt: HostRuntime) {
     );
 }
 
-/// A thousand times over: the last block that openssl's CBC mode makes of a thousand blocks of zeros, by the vector zero.
+/// A thousand times over: the last block that openssl's CBC mode makes of a thousand blocks of zeros,
+/// by the vector zero.
 #[test]
 fn thousand_times(rt: HostRuntime) {
     let cipher = Aes256::new(&SP_KEY);

@@ -59,7 +59,8 @@ impl Address {
     }
 }
 
-/// A range of addresses of one family, from a start to an end, both included. A range whose end is below its start is empty.
+/// A range of addresses of one family, from a start to an end, both included. A range whose end is
+/// below its start is empty.
 #[derive(Clone, Copy, Debug, PartialEq, Eq)]
 pub enum Range {
     V4(u32, u32),
@@ -132,8 +133,8 @@ impl Range {
         }
     }
 
-    /// Whether both its ends lie between those of another range of its family. So where it is not empty it has no address
-    /// outside of the other one.
+    /// Whether both its ends lie between those of another range of its family. So where it is not empty
+    /// it has no address outside of the other one.
     pub fn lies_in(self, other: Range) -> bool
         ensures { IsTrue result ↔ LiesWithin self other }
     {

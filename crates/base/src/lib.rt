@@ -1,8 +1,10 @@
-//! What every other crate speaks of: lists in memory, and the ends, ranges and selectors that traffic is told apart by.
+//! What every other crate speaks of: lists in memory, and the ends, ranges and selectors that traffic
+//! is told apart by.
 //!
-//! [`Items`] is a list that contracts see as its items alone. [`Address`], [`Range`] and [`Selector`] are plain data: what a
-//! message says of traffic (RFC 7296 section 3.13.1), what a policy decides about, and what an association covers. `specs/`
-//! has the words that definitions share: `Octets` of lists of octets, `Lists` of lists of anything, `Addresses` of ranges.
+//! [`Items`] is a list that contracts see as its items alone. [`Address`], [`Range`] and [`Selector`]
+//! are plain data: what a message says of traffic (RFC 7296 section 3.13.1), what a policy decides
+//! about, and what an association covers. `specs/` has the words that definitions share: `Octets` of
+//! lists of octets, `Lists` of lists of anything, `Addresses` of ranges.
 //!
 //! ```rust
 //! use base::{Address, Range};

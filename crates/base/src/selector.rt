@@ -2,8 +2,8 @@
 
 use crate::address::Range;
 
-/// A traffic selector: an IP protocol (0 for any), and ranges of ports and of addresses of one family, both ends included.
-/// A range whose end is below its start is empty; a message never carries one.
+/// A traffic selector: an IP protocol (0 for any), and ranges of ports and of addresses of one family,
+/// both ends included. A range whose end is below its start is empty; a message never carries one.
 #[derive(Clone, Copy, Debug, PartialEq, Eq)]
 pub struct Selector {
     pub protocol: u8,

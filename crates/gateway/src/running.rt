@@ -129,9 +129,9 @@ fn run_with<'a, C: Sealer + Agreement + Proof>(
     inputs.len()
 }
 
-// Takes an input, for whose output there is a place. Before and after it, the ESP packets of the outputs from
-// `start` on, or from the place that is returned on, have no ICVs yet. An outbound packet is only laid. Before
-// an input of another kind those packets get their ICVs.
+// Takes an input, for whose output there is a place. Before and after it, the ESP packets of the
+// outputs from `start` on, or from the place that is returned on, have no ICVs yet. An outbound packet
+// is only laid. Before an input of another kind those packets get their ICVs.
 fn take_next<'a, C: Sealer + Agreement + Proof>(
     alloc: Global,
     gateway: &mut Gateway<C>,

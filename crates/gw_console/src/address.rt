@@ -37,7 +37,8 @@ fn groups_text(alloc: Global, groups: [u16; GROUPS]) -> Result<String, AllocErro
     Ok(text)
 }
 
-/// The address that a text spells in one of the two forms, hexadecimal digits in either case; `None` where it spells none.
+/// The address that a text spells in one of the two forms, hexadecimal digits in either case; `None`
+/// where it spells none.
 pub fn read_address(text: &str) -> Option<Address> {
     match text.parse::<Ipv4Addr>() {
         Ok(dotted) => Some(Address::V4(u32::from(dotted))),

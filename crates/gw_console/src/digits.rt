@@ -37,11 +37,11 @@ fn is_blank(octet: u8) -> bool
     matches!(octet, b' ' | b'\t' | b'\r' | b'\n')
 }
 
-/// Appends the octets that the digits of a text spell, of either case, two digits an octet. Blanks and line ends are
-/// skipped.
+/// Appends the octets that the digits of a text spell, of either case, two digits an octet. Blanks and
+/// line ends are skipped.
 ///
-/// Refused, with `out` as it was: [`HexFault::NotHex`] where anything else is there or the count of digits is odd, else
-/// [`HexFault::Memory`] alone.
+/// Refused, with `out` as it was: [`HexFault::NotHex`] where anything else is there or the count of
+/// digits is odd, else [`HexFault::Memory`] alone.
 pub fn read_hex(text: &[u8], out: &mut Vec<u8>) -> Result<(), HexFault>
     ensures read { OnOk result (Appends (λ octets. decode_of (digits_of text.now) ≡ Ok octets)
         out.old.items out.new.items) }

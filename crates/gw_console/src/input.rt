@@ -33,7 +33,8 @@ impl From<AllocError> for InputFault {
 
 /// All that the reader has.
 ///
-/// Refused: [`InputFault::File`] where a read fails, or there are more than [`FILE_LIMIT`] octets; [`InputFault::Memory`].
+/// Refused: [`InputFault::File`] where a read fails, or there are more than [`FILE_LIMIT`] octets;
+/// [`InputFault::Memory`].
 pub fn read_whole<R: Read>(alloc: Global, reader: &mut R) -> Result<Vec<u8>, InputFault>
     ensures { IfOk result (λ octets. IsWholeFile (R.remaining reader.old) octets.items) }
 {

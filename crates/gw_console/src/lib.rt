@@ -1,7 +1,8 @@
-//! What a program reads and prints: files, whole or not at all, and hexadecimal digits in, text and an exit status out.
+//! What a program reads and prints: files, whole or not at all, and hexadecimal digits in, text and an
+//! exit status out.
 //!
-//! [`read_whole`] reads all that a reader has, [`write_whole`] writes a text to its end or a beginning of it, [`read_hex`] and
-//! [`hex_text`] go between octets and their digits, [`read_address`] and
+//! [`read_whole`] reads all that a reader has, [`write_whole`] writes a text to its end or a beginning
+//! of it, [`read_hex`] and [`hex_text`] go between octets and their digits, [`read_address`] and
 //! [`address_text`] between addresses and their text. A program ends with a [`Status`].
 //!
 //! ```text

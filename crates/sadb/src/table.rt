@@ -288,8 +288,8 @@ impl Table {
         Ok(number)
     }
 
-    /// Appends a packet as [`seal`](Table::seal) does, but with zeros in the place of its ICV, and answers its
-    /// sequence number. Refused as that is. [`finish`](Table::finish) writes the ICV.
+    /// Appends a packet as [`seal`](Table::seal) does, but with zeros in the place of its ICV, and
+    /// answers its sequence number. Refused as that is. [`finish`](Table::finish) writes the ICV.
     pub fn lay(
         &mut self,
         serial: u32,

@@ -60,7 +60,8 @@
 //!   that is refused.
 //! - Who counts on numbers that never repeat gives a new sender the last number that the key was used with.
 //!
-//! This code doesn't overwrite what it frees. `tools/library.sh` links it with `bindings/c/wipe.c`, which does.
+//! This code doesn't overwrite what it frees. `tools/library.sh` links it with `bindings/c/wipe.c`,
+//! which does.
 #![tactic(auto)]
 
 mod end;

@@ -340,8 +340,8 @@ fn refuse_each(outs: &mut [SukOutput])
     }
 }
 
-// Takes the packets in order, but for the ICVs of their ESP packets, which are to stand behind what is used of
-// the room; answers how much of it is used then.
+// Takes the packets in order, but for the ICVs of their ESP packets, which are to stand behind what is
+// used of the room; answers how much of it is used then.
 fn lay_group<'a>(
     alloc: Global,
     gateway: &mut Gateway<PeerCaller>,

@@ -4,7 +4,8 @@ use caller_script::ScriptCaller;
 use gateway::{End, Gateway, Output};
 use std::alloc::{AllocError, Global};
 
-/// A gateway that holds nothing, with numbers of 64 bits or of 32 in its children. Its first SPI of ESP is 4096 at A, 8192 at B.
+/// A gateway that holds nothing, with numbers of 64 bits or of 32 in its children. Its first SPI of ESP
+/// is 4096 at A, 8192 at B.
 pub fn gateway_with(
     alloc: Global,
     end: End,

@@ -49,7 +49,8 @@ pub fn probe(ike: u32) -> OwnedInput {
     }
 }
 
-/// The IPv4 packet from 10.0.0.0/24 to 10.1.0.1 that is a header alone and tells its number by its identification and its source.
+/// The IPv4 packet from 10.0.0.0/24 to 10.1.0.1 that is a header alone and tells its number by its
+/// identification and its source.
 pub fn inner(number: u64) -> [u8; 20] {
     let [_, _, _, _, _, high, middle, low] = number.to_be_bytes();
     [

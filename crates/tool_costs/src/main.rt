@@ -1,5 +1,6 @@
-//! `tool_costs`: does one piece of the work of a gateway so many times and no more, so that its cost can be counted from outside.
-//! `tools/measure.py` runs it twice under a counter of instructions, with two counts: the difference is the cost of the work alone.
+//! `tool_costs`: does one piece of the work of a gateway so many times and no more, so that its cost
+//! can be counted from outside. `tools/measure.py` runs it twice under a counter of instructions, with
+//! two counts: the difference is the cost of the work alone.
 //!
 //! ```text
 //! measures hash COUNT OCTETS        SHA-256 of so many octets
@@ -15,8 +16,9 @@
 //! measures cipher COUNT OCTETS      so many octets sealed as the body of an IKE message, AES-256-CBC and HMAC-SHA-256-128
 //! ```
 //!
-//! It prints an octet of what the last turn made, so that no compiler leaves the work out. The exit status is 0 where all was
-//! done, 1 where something was refused or the octet not printed, and 2 where the words ask for nothing.
+//! It prints an octet of what the last turn made, so that no compiler leaves the work out. The exit
+//! status is 0 where all was done, 1 where something was refused or the octet not printed, and 2 where
+//! the words ask for nothing.
 #![tactic(auto)]
 
 mod ciphers;

@@ -90,7 +90,8 @@ fn policy_of(alloc: Global, entries: u16) -> Option<Policy> {
     Policy::new(items).ok()
 }
 
-/// A policy of so many entries, the last of which protects the flows to all networks, and the others those to no network.
+/// A policy of so many entries, the last of which protects the flows to all networks, and the others
+/// those to no network.
 pub fn policy_before(alloc: Global, entries: u16) -> Option<Policy> {
     let mut items = Items::new(alloc);
     for place in 1..entries {

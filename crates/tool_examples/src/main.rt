@@ -1,7 +1,9 @@
-//! `tool_examples`: plays each script of `examples/` and shows each message of it, and looks whether what is printed is what stands beside it.
+//! `tool_examples`: plays each script of `examples/` and shows each message of it, and looks whether
+//! what is printed is what stands beside it.
 //!
-//! It is the gate's test that the examples do as they are written, and runs in a folder with copies of them, `crates/tool_examples/data`. It
-//! prints a line for each, and has the exit status 1 where one prints something else.
+//! It is the gate's test that the examples do as they are written, and runs in a folder with copies of
+//! them, `crates/tool_examples/data`. It prints a line for each, and has the exit status 1 where one
+//! prints something else.
 #![tactic(auto)]
 
 use gw_console::read_whole;

@@ -7,8 +7,8 @@ use std::io::{ErrorKind, Read, Write};
 /// The most octets that a frame has, its kind with them.
 pub const FRAME_LIMIT: u32 = 1_048_576;
 
-/// The next frame of the input, which replaces what stood in `frame`; whether there was one. [`Stop::Cut`] where the input ends inside it,
-/// [`Stop::Size`], [`Stop::Unread`], [`Stop::Memory`].
+/// The next frame of the input, which replaces what stood in `frame`; whether there was one.
+/// [`Stop::Cut`] where the input ends inside it, [`Stop::Size`], [`Stop::Unread`], [`Stop::Memory`].
 pub fn read_frame<R: Read>(reader: &mut R, frame: &mut Vec<u8>) -> Result<bool, Stop> {
     let Some(first) = first_octet(reader)? else {
         return Ok(false);
@@ -49,8 +49,8 @@ fn fill<R: Read>(reader: &mut R, octets: &mut [u8]) -> Result<(), Stop> {
     }
 }
 
-/// Writes a frame: the length of its kind and body, and these. [`Stop::Size`] where they have 2^32 octets or more, then
-/// [`Stop::Unwritten`].
+/// Writes a frame: the length of its kind and body, and these. [`Stop::Size`] where they have 2^32
+/// octets or more, then [`Stop::Unwritten`].
 pub fn write_frame<W: Write>(writer: &mut W, frame: &[u8]) -> Result<(), Stop> {
     let Ok(size) = u32::try_from(frame.len()) else {
         return Err(Stop::Size);

@@ -1,10 +1,14 @@
-//! `tool_host`: one gateway behind standard input and output, so that a program in any language can put sockets round the core.
+//! `tool_host`: one gateway behind standard input and output, so that a program in any language can put
+//! sockets round the core.
 //!
-//! It reads frames and answers each by one, in order, until the input ends. A frame is a length of 4 octets and so many octets behind it, at
-//! most 1,048,576 in what is read: the kind, of 1 octet, and the body. All numbers are big endian. A *block* is a length of 2 octets and so many octets
-//! behind it. `fresh` is 88 octets that were drawn anew for this frame: an SPI of 8, a nonce of 32, a secret of 32 and 16 for sealing.
+//! It reads frames and answers each by one, in order, until the input ends. A frame is a length of 4
+//! octets and so many octets behind it, at most 1,048,576 in what is read: the kind, of 1 octet, and
+//! the body. All numbers are big endian. A *block* is a length of 2 octets and so many octets behind
+//! it. `fresh` is 88 octets that were drawn anew for this frame: an SPI of 8, a nonce of 32, a secret
+//! of 32 and 16 for sealing.
 //!
-//! The first frame, of kind 0, is the configuration. The cipher, key agreement and proofs are those of [`caller_peer`]. Its body:
+//! The first frame, of kind 0, is the configuration. The cipher, key agreement and proofs are those of
+//! [`caller_peer`]. Its body:
 //!
 //! | Octets | |
 //! |---|---|
@@ -14,9 +18,10 @@
 //! | 1, 4, block, block | the peer: the same |
 //! | up to the end | the entries of the policy, in their order |
 //!
-//! An entry: the action (0 discards, 1 lets go in the clear, 2 protects), the family (4 or 6) and the protocol (0 for any), of 1 octet
-//! each. Then of 2 octets each the first and the last local port, the first and the last remote port. Then of 4 or 16 octets each the
-//! first and the last local address, the first and the last remote address.
+//! An entry: the action (0 discards, 1 lets go in the clear, 2 protects), the family (4 or 6) and the
+//! protocol (0 for any), of 1 octet each. Then of 2 octets each the first and the last local port, the
+//! first and the last remote port. Then of 4 or 16 octets each the first and the last local address,
+//! the first and the last remote address.
 //!
 //! | Kind | Input | Body |
 //! |---|---|---|
@@ -31,8 +36,9 @@
 //! | 9 | a packet on its way out | the packet |
 //! | 10 | a packet that came in unprotected | the packet |
 //!
-//! An answer has kind 0 and no body where the configuration is taken. Of an input it has one of these: 1 a reply, 2 a repeat, 3 a request,
-//! 4 counted, 5 ticked, 6 done, 7 up, 8 a dummy, 9 sealed, 10 clear, 11 discarded, 12 dropped, 13 refused. Its body:
+//! An answer has kind 0 and no body where the configuration is taken. Of an input it has one of these:
+//! 1 a reply, 2 a repeat, 3 a request, 4 counted, 5 ticked, 6 done, 7 up, 8 a dummy, 9 sealed, 10
+//! clear, 11 discarded, 12 dropped, 13 refused. Its body:
 //!
 //! | Octets | |
 //! |---|---|
@@ -45,12 +51,13 @@
 //! | 4, then for each 1, 4, so many | how many datagrams are to be sent, and of each its way (1 by UDP, 2 by IP), its length and its octets |
 //! | up to the end | the packet that goes up or on |
 //!
-//! An answer of kind 14 has a text as its body: the frame was malformed, and the gateway is as it was. Nothing else is
-//! read of that frame, and the next one is taken as ever.
+//! An answer of kind 14 has a text as its body: the frame was malformed, and the gateway is as it was.
+//! Nothing else is read of that frame, and the next one is taken as ever.
 //!
-//! The exit status is 0 where the input ended behind a frame. It is 2 where the input ends inside one, where one has no kind or more octets than it may,
-//! and where the configuration is refused. It is 1 where octets can't be read or written, or there is no memory for them. Why is a line on
-//! standard error; what was answered until then stands.
+//! The exit status is 0 where the input ended behind a frame. It is 2 where the input ends inside one,
+//! where one has no kind or more octets than it may, and where the configuration is refused. It is 1
+//! where octets can't be read or written, or there is no memory for them. Why is a line on standard
+//! error; what was answered until then stands.
 #![tactic(auto)]
 
 mod fault;

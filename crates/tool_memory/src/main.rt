@@ -7,8 +7,9 @@
 //! timers are as they were. `tools/want_of_memory.py` runs this program with each of its allocations refused
 //! in turn, alone and with all after it.
 //!
-//! It prints what was found, with the words of what was refused. The exit status is 0 where all is as it should be, 1 where it isn't, and 3 where
-//! memory was wanted twice in a row, or for the program's own lists.
+//! It prints what was found, with the words of what was refused. The exit status is 0 where all is as
+//! it should be, 1 where it isn't, and 3 where memory was wanted twice in a row, or for the program's
+//! own lists.
 #![tactic(auto)]
 
 mod link;

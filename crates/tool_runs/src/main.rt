@@ -1,5 +1,5 @@
-//! `tool_runs`: times packets through a gateway, one by one and as one list. `tools/speed.py` builds it for two kinds of processors, runs it
-//! and prints the ratios.
+//! `tool_runs`: times packets through a gateway, one by one and as one list. `tools/speed.py` builds it
+//! for two kinds of processors, runs it and prints the ratios.
 //!
 //! ```text
 //! tool_runs out ROUNDS COUNT OCTETS        packets on their way out, by as many calls of Gateway::step
@@ -8,8 +8,9 @@
 //! tool_runs in_all ROUNDS COUNT OCTETS     by one call of run
 //! ```
 //!
-//! Two gateways hold a Child SA with extended numbers, and COUNT packets of so many octets go from one to the other. It prints the nanoseconds
-//! of the fastest of the rounds. The exit status is 1 where the words ask for nothing, or a packet doesn't go through.
+//! Two gateways hold a Child SA with extended numbers, and COUNT packets of so many octets go from one
+//! to the other. It prints the nanoseconds of the fastest of the rounds. The exit status is 1 where the
+//! words ask for nothing, or a packet doesn't go through.
 #![tactic(auto)]
 
 mod packets;

@@ -12,7 +12,8 @@ pub enum Side {
     In,
 }
 
-// The header of an IPv4 packet of so many octets, from 10.0.0.1 to 10.1.0.1, with a protocol that has no ports.
+// The header of an IPv4 packet of so many octets, from 10.0.0.1 to 10.1.0.1, with a protocol that has
+// no ports.
 fn header(octets: u16) -> [u8; 20] {
     let [high, low] = octets.to_be_bytes();
     [

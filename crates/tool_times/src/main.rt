@@ -1,5 +1,5 @@
-//! `tool_times`: times the calls of `esp` for a list of packets beside those for one packet. `tools/speed.py` builds it for two kinds of
-//! processors, runs it and prints the ratios.
+//! `tool_times`: times the calls of `esp` for a list of packets beside those for one packet.
+//! `tools/speed.py` builds it for two kinds of processors, runs it and prints the ratios.
 //!
 //! ```text
 //! speed seal ROUNDS COUNT OCTETS ..        payloads sealed one by one
@@ -10,8 +10,9 @@
 //! speed old_all ROUNDS COUNT OCTETS ..     by one call
 //! ```
 //!
-//! COUNT payloads have these sizes in turn. It prints the nanoseconds of the fastest of the rounds, and an octet of what was made, so that
-//! no compiler leaves the work out. The exit status is 1 where the words ask for nothing, or something is refused.
+//! COUNT payloads have these sizes in turn. It prints the nanoseconds of the fastest of the rounds, and
+//! an octet of what was made, so that no compiler leaves the work out. The exit status is 1 where the
+//! words ask for nothing, or something is refused.
 #![tactic(auto)]
 
 mod receiver;

@@ -95,8 +95,8 @@ pub fn no_pair_comes()
     flows::laws::no_pair_comes();
 }
 
-/// By a packet no SA pair comes or goes, and none gets another outbound SA: what was laid before it is finished
-/// in the same way after it.
+/// By a packet no SA pair comes or goes, and none gets another outbound SA: what was laid before it is
+/// finished in the same way after it.
 pub fn senders_stay()
     ensures received { (old new : Database) (packet : Octets) (outcome : Outcome)
         → Receives old packet outcome new → KeepsSenders old.pairs new.pairs }

@@ -1,4 +1,5 @@
-//! By which notice a peer declines what it was asked, as the trace of a step tells it (RFC 7296, sections 1.2, 1.3.1 and 3.10.1).
+//! By which notice a peer declines what it was asked, as the trace of a step tells it (RFC 7296,
+//! sections 1.2, 1.3.1 and 3.10.1).
 use super::asserts::{add, holds, same};
 use caller_script::ScriptCaller;
 use gateway::{End, Gateway, Output, Traced};
@@ -24,7 +25,8 @@ fn notice(next: u8, kind: [u8; 2]) -> [u8; 8] {
     [next, 0, 0, 8, 0, 0, high, low]
 }
 
-/// B's answer of these payloads, the first of this type, to a request of A, as the caller of scripts seals it under B's key.
+/// B's answer of these payloads, the first of this type, to a request of A, as the caller of scripts
+/// seals it under B's key.
 fn answer(
     rt: &impl Abort,
     alloc: Global,

@@ -1,4 +1,5 @@
-//! Messages of IKE_SA_INIT, made by hand (RFC 7296, sections 1.2, 2.7 and 3.1 to 3.9): their numbers are those of the caller of scripts.
+//! Messages of IKE_SA_INIT, made by hand (RFC 7296, sections 1.2, 2.7 and 3.1 to 3.9): their numbers
+//! are those of the caller of scripts.
 use super::asserts::{hex, same};
 use caller_script::ScriptCaller;
 use gateway::{End, Gateway, Output};
@@ -14,7 +15,8 @@ const TWO_PROPOSALS: &str = "0000000000000001 0000000000000000 21202208 00000000
     28000028 fdea0000 0505050505050505050505050505050505050505050505050505050505050505\
     00000024 0808080808080808080808080808080808080808080808080808080808080808";
 
-/// Its answer by the responder of SPI 2: the second proposal alone, under its own number, with one transform of each type.
+/// Its answer by the responder of SPI 2: the second proposal alone, under its own number, with one
+/// transform of each type.
 const SECOND_PROPOSAL: &str = "0000000000000001 0000000000000002 21202220 00000000 00000094\
     2200002c 00000028 02010004 03000008 0100fde9 03000008 02000005 03000008 0300000c 00000008 0400fdea\
     28000028 fdea0000 0707070707070707070707070707070707070707070707070707070707070707\

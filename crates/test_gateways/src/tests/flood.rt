@@ -1,4 +1,5 @@
-//! Many requests of IKE_SA_INIT from senders that were made up (RFC 7296, section 2.6), and SPIs that can't be used.
+//! Many requests of IKE_SA_INIT from senders that were made up (RFC 7296, section 2.6), and SPIs that
+//! can't be used.
 use super::asserts::same;
 use caller_script::ScriptCaller;
 use gateway::{End, Gateway, Output};

@@ -9,7 +9,8 @@ use std::panic::Expect;
 use std::process::Abort;
 use test_samples::{gateway, message};
 
-/// A message as the caller of scripts seals it: with one octet 00 behind the payloads, under its integrity key.
+/// A message as the caller of scripts seals it: with one octet 00 behind the payloads, under its
+/// integrity key.
 fn sealed(rt: &impl Abort, alloc: Global, digits: &str, key: &[u8; 32]) -> Vec<u8> {
     let mut octets = hex(rt, alloc, digits);
     add(rt, &mut octets, &[0]);
@@ -60,7 +61,8 @@ fn is_notice(rt: &impl Abort, octets: &[u8], number: u8) {
 /// No payload.
 const EMPTY: &str = "0000000000000001 0000000000000002 2e202308 00000001 00000031 00000015";
 
-/// The identity `c.example`, an AUTH of zeros, an offer of ESP, and all addresses of 10.0.0.0/24 and 10.1.0.0/24.
+/// The identity `c.example`, an AUTH of zeros, an offer of ESP, and all addresses of 10.0.0.0/24 and
+/// 10.1.0.0/24.
 const STRANGER: &str = "0000000000000001 0000000000000002 2e202308 00000001 000000c2 230000a6\
     27000011 02000000 632e6578616d706c65\
     21000028 02000000 0000000000000000000000000000000000000000000000000000000000000000\

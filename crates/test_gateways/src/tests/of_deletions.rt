@@ -1,4 +1,5 @@
-//! The order of what is judged, and payloads as lists, by the sections of RFC 7296. Pairs are made in higher crates alone.
+//! The order of what is judged, and payloads as lists, by the sections of RFC 7296. Pairs are made in
+//! higher crates alone.
 ghost use Rattle.std.specs.Prelude.{◌≤◌};
 
 use base::Items;

@@ -242,7 +242,8 @@ fn told(rt: &impl Abort, alloc: Global, plain: &Plain, deleting: bool) -> (u16, 
     }
 }
 
-// What is not in the grammar; a request while this end deletes; one for AH; one for flows that are not protected.
+// What is not in the grammar; a request while this end deletes; one for AH; one for flows that are not
+// protected.
 fn decisions(rt: &impl Abort, alloc: Global) -> [(u16, bool); 4] {
     let unread = Plain {
         first: 41,
@@ -312,7 +313,8 @@ fn what_is_sent(rt: HostRuntime) {
     assert_eq!(rt; payloads.as_slice(), [refused].as_slice());
 }
 
-// Each of these is a payload more, or a circumstance, for which a request is refused before those above it are looked at.
+// Each of these is a payload more, or a circumstance, for which a request is refused before those above
+// it are looked at.
 #[test]
 fn what_is_refused_first(rt: HostRuntime) {
     let alloc = rt.alloc();

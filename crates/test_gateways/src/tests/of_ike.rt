@@ -21,8 +21,8 @@ use std::panic::Expect;
 use std::process::Abort;
 use test_samples::{config, fresh, policy};
 
-/// One end: its machine, and the table and the policy that go with it. That the machine is sound with the table is an invariant, so that
-/// no test has to say it.
+/// One end: its machine, and the table and the policy that go with it. That the machine is sound with
+/// the table is an invariant, so that no test has to say it.
 #[derive(Drop)]
 struct Side {
     ike: Ike,
@@ -151,12 +151,14 @@ fn agreed_twice(rt: &impl Abort, alloc: Global, b: &mut Side) -> Side {
     a
 }
 
-/// A request of INFORMATIONAL without payloads under A's SPI 1 and B's 2, as the caller of scripts seals it under A's key.
+/// A request of INFORMATIONAL without payloads under A's SPI 1 and B's 2, as the caller of scripts
+/// seals it under A's key.
 fn request(rt: &impl Abort, alloc: Global, number: u32, key: &[u8; 32]) -> Vec<u8> {
     empty(rt, alloc, 0x08, number, key)
 }
 
-/// A message of INFORMATIONAL without payloads, with these flags, as the caller of scripts seals it under its sender's key.
+/// A message of INFORMATIONAL without payloads, with these flags, as the caller of scripts seals it
+/// under its sender's key.
 fn empty(rt: &impl Abort, alloc: Global, flags: u8, number: u32, key: &[u8; 32]) -> Vec<u8> {
     let mut octets = Vec::new(alloc);
     add(

@@ -1,4 +1,5 @@
-//! Two gateways with the caller that real peers speak with: AES-256 in CBC mode, the 2048-bit group, and shared keys.
+//! Two gateways with the caller that real peers speak with: AES-256 in CBC mode, the 2048-bit group,
+//! and shared keys.
 ghost use Rattle.std.specs.Prelude.{IfOk};
 ghost use Rattle.gateway.specs.Worlds.{HoldsNothing};
 

@@ -141,7 +141,8 @@ fn all_inputs_of_one_end(rt: HostRuntime) {
     run_as_a(&rt, rt.alloc(), &both, &inputs);
 }
 
-/// Finds that what B sends afterwards is what it sends without the repeats: the same lengths, and the same octets.
+/// Finds that what B sends afterwards is what it sends without the repeats: the same lengths, and the
+/// same octets.
 fn are_as_without(rt: &impl Abort, found: &Later, wanted: &Later) {
     assert_eq!(rt; found.lengths(), (48, 49, 49));
     assert!(rt; found.is(wanted));
@@ -166,7 +167,8 @@ fn a_thousand_repeats(rt: HostRuntime) {
     are_as_without(&rt, &found, &wanted);
 }
 
-// In groups or one by one, the same comes of each packet: 3 times 1 + 2 + .. + 70 packets, of 27 children and more that come late.
+// In groups or one by one, the same comes of each packet: 3 times 1 + 2 + .. + 70 packets, of 27
+// children and more that come late.
 #[test]
 fn lists_of_each_length(rt: HostRuntime) {
     let compared = compare_lists(&rt, rt.alloc());

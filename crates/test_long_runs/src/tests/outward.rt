@@ -28,7 +28,8 @@ fn a_hundred_thousand_packets(rt: HostRuntime) -> Result<(), Fail> {
     Ok(())
 }
 
-// To be run with each allocation failing in turn: without memory for what is remembered nothing comes out otherwise.
+// To be run with each allocation failing in turn: without memory for what is remembered nothing comes
+// out otherwise.
 #[test]
 fn packets_without_memory(rt: HostRuntime) -> Result<(), Fail> {
     assert_eq!(rt; play(rt.alloc(), 20)?.first_wrong, None);

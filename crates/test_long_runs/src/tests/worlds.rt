@@ -1,5 +1,6 @@
-//! Random worlds: two gateways, and what goes between them lost, late, repeated, reflected and damaged. After each event both are held to
-//! what is promised of two ends together, by a plain program (RFC 7296, sections 2.1 to 2.3 and 2.17).
+//! Random worlds: two gateways, and what goes between them lost, late, repeated, reflected and damaged.
+//! After each event both are held to what is promised of two ends together, by a plain program (RFC
+//! 7296, sections 2.1 to 2.3 and 2.17).
 mod book;
 mod game;
 mod promises;

@@ -1,5 +1,5 @@
-//! Assertions whose proof is found once. An `assert_eq!` that stands in a test costs that test's proof some seconds, and a call of one of
-//! these a tenth of one.
+//! Assertions whose proof is found once. An `assert_eq!` that stands in a test costs that test's proof
+//! some seconds, and a call of one of these a tenth of one.
 ghost use Rattle.std.specs.Prelude.{IsTrue};
 
 use std::alloc::Global;
@@ -28,8 +28,8 @@ pub fn holds(rt: &impl Abort, fact: bool)
     assert!(rt; fact);
 }
 
-/// What was answered where memory was there for it; without memory the test ends. Where a later call needs what a contract says of
-/// the answer, `expect` stays, which costs more.
+/// What was answered where memory was there for it; without memory the test ends. Where a later call
+/// needs what a contract says of the answer, `expect` stays, which costs more.
 pub fn granted<T, E: Debug>(rt: &impl Abort, answer: Result<T, E>) -> T {
     answer.expect(rt, "memory")
 }

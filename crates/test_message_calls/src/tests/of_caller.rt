@@ -9,7 +9,8 @@ use std::alloc::{AllocError, Global};
 use std::process::Abort;
 use suite::{Agreement, Cipher, Keys, Proof, Sealer};
 
-// Any sealer opens what it sealed, and told the body's length: its laws promise it to code that knows no more of it.
+// Any sealer opens what it sealed, and told the body's length: its laws promise it to code that knows
+// no more of it.
 fn sealed_and_opened<S: Sealer>(
     sealer: &S,
     keys: &Keys,

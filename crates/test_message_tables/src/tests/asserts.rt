@@ -1,5 +1,5 @@
-//! Assertions whose proof is found once. An `assert_eq!` that stands in a test costs that test's proof some seconds, and a call of one of
-//! these a tenth of one.
+//! Assertions whose proof is found once. An `assert_eq!` that stands in a test costs that test's proof
+//! some seconds, and a call of one of these a tenth of one.
 ghost use Rattle.std.specs.Prelude.{IsTrue};
 
 use std::fmt::Debug;
@@ -34,14 +34,15 @@ pub fn holds_at<P: Debug + Drop>(rt: &impl Abort, place: P, fact: bool)
     assert!(rt; fact, "at {place:?}");
 }
 
-/// What was answered where memory was there for it; without memory the test ends. Where a later call needs what a contract says of
-/// the answer, `expect` stays, which costs more.
+/// What was answered where memory was there for it; without memory the test ends. Where a later call
+/// needs what a contract says of the answer, `expect` stays, which costs more.
 pub fn granted<T, E: Debug>(rt: &impl Abort, answer: Result<T, E>) -> T {
     answer.expect(rt, "memory")
 }
 
-/// Finds that no row of a table differs; a failure prints the place of the first that does. Plain values in the rows and a function without a
-/// contract that goes through them keep the proof of a test short; assertions for each row and references in the rows make it long.
+/// Finds that no row of a table differs; a failure prints the place of the first that does. Plain
+/// values in the rows and a function without a contract that goes through them keep the proof of a test
+/// short; assertions for each row and references in the rows make it long.
 pub fn none_differs(rt: &impl Abort, place: Option<usize>) {
     assert_eq!(rt; place, None);
 }

@@ -88,7 +88,8 @@ fn refusal<T: Drop>(answer: Result<T, WireFault>) -> Refusal {
     }
 }
 
-/// What is said of a body with the header of a payload of this type, behind an empty vendor ID of four octets.
+/// What is said of a body with the header of a payload of this type, behind an empty vendor ID of four
+/// octets.
 fn refusal_of_body(rt: &impl Abort, alloc: Global, kind: u8, body: &[u8]) -> Refusal {
     let length = body.len() + 4;
     let mut octets = granted(rt, [kind, 0, 0, 4, 0, 0].to_vec(alloc));
@@ -214,7 +215,8 @@ fn an_unknown_payload_is_read(rt: HostRuntime) {
     same(&rt, data.as_slice(), [0xaa].as_slice());
 }
 
-/// How octets are read: as a chain that begins with this type, as the body of a payload of this type, or as a datagram.
+/// How octets are read: as a chain that begins with this type, as the body of a payload of this type,
+/// or as a datagram.
 #[derive(Clone, Copy)]
 enum Reading {
     Chain(u8),

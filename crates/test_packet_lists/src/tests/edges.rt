@@ -1,12 +1,14 @@
-//! Payloads of every length at which one block more is hashed, sealed at once and one by one, and their packets opened so.
+//! Payloads of every length at which one block more is hashed, sealed at once and one by one, and their
+//! packets opened so.
 use super::asserts::same;
 use super::fixture::{IPV4, MOST, Numbers, Receiver, joined, packets, payloads, sender, text};
 use std::alloc::Global;
 use std::ops::Range;
 use std::test::Fail;
 
-/// Lengths about the edges of these blocks. Check values cover ten octets beside a payload and its padding, fourteen with
-/// extended numbers, and nine end the message: so 42 octets fill a block and 43 don't fit into it, or 38 and 39.
+/// Lengths about the edges of these blocks. Check values cover ten octets beside a payload and its
+/// padding, fourteen with extended numbers, and nine end the message: so 42 octets fill a block and 43
+/// don't fit into it, or 38 and 39.
 fn lengths(alloc: Global, numbers: Numbers, blocks: Range<usize>) -> Result<Vec<usize>, Fail> {
     let full = match numbers {
         Numbers::Extended => 38,
@@ -21,8 +23,8 @@ fn lengths(alloc: Global, numbers: Numbers, blocks: Range<usize>) -> Result<Vec<
     Ok(lengths)
 }
 
-/// How many packets of such lengths are handed up, opened at once; `None` where those that are sealed at once are others than those
-/// that are sealed one by one.
+/// How many packets of such lengths are handed up, opened at once; `None` where those that are sealed
+/// at once are others than those that are sealed one by one.
 fn opened(alloc: Global, numbers: Numbers, blocks: Range<usize>) -> Result<Option<usize>, Fail> {
     let text = text(alloc)?;
     let lengths = lengths(alloc, numbers, blocks)?;

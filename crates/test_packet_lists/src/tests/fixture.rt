@@ -1,4 +1,5 @@
-//! What the tests share: two ends of one association, payloads, and how calls for a list are set beside calls for one packet.
+//! What the tests share: two ends of one association, payloads, and how calls for a list are set beside
+//! calls for one packet.
 ghost use Rattle.std.specs.Prelude.{◌≡◌, ◌≤◌, IsTrue, ◌↔◌, All, length, take};
 ghost use Rattle.byteorder.specs.Endian.{big_bytes};
 

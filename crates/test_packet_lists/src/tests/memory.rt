@@ -57,7 +57,8 @@ fn seal_next(
 
 /// Seals payloads by one call and by as many, with numbers of 64 bits.
 fn seal_both(rt: &impl Abort, alloc: Global, payloads: &[&[u8]]) {
-    // What the list is compared with, and one packet more, has its memory before: no refusal there is the subject.
+    // What the list is compared with, and one packet more, has its memory before: no refusal there is
+    // the subject.
     let Ok(mut wanted) = Vec::with_capacity(alloc, 9 * (40 + 29)) else {
         return;
     };

@@ -19,7 +19,8 @@ fn cut(alloc: Global, packet: &[u8], octets: usize) -> Result<Vec<u8>, AllocErro
     packet.split_at(packet.len().min(octets)).0.to_vec(alloc)
 }
 
-/// Adds what is delivered of a packet: in four turns of six itself, in some of these beside one that is refused.
+/// Adds what is delivered of a packet: in four turns of six itself, in some of these beside one that is
+/// refused.
 fn deliver(
     alloc: Global,
     list: &mut Vec<Vec<u8>>,
@@ -94,7 +95,8 @@ fn packets_after(
     packets(alloc, sender(numbers, last), &list)
 }
 
-/// The first count of packets at which a list is opened otherwise than one by one, or not all of it is handed up.
+/// The first count of packets at which a list is opened otherwise than one by one, or not all of it is
+/// handed up.
 fn first_count_that_differs(alloc: Global, counts: Range<usize>) -> Result<Option<usize>, Fail> {
     let mut pair = Pair::new(alloc, Numbers::Extended)?;
     let mut last = 6;
@@ -194,8 +196,9 @@ fn outcomes_behind_100(
     outcomes(alloc, numbers, &first, &list)
 }
 
-// The sixth packet moves the window so far that from then on the low half 50 stands for 2^32 + 50, and no more for 50 as at the
-// list's head. So what was sealed under 60 and 99 has another number at its turn, for which its check value is wrong.
+// The sixth packet moves the window so far that from then on the low half 50 stands for 2^32 + 50, and
+// no more for 50 as at the list's head. So what was sealed under 60 and 99 has another number at its
+// turn, for which its check value is wrong.
 #[test]
 fn recovers_another_number_at_its_turn(rt: HostRuntime) -> Result<(), Fail> {
     let list = [

@@ -42,7 +42,8 @@ fn seals_each_count_from_71(rt: HostRuntime) -> Result<(), Fail> {
     Ok(())
 }
 
-/// The first place at which lists of 70 payloads are not stopped as one by one, if numbers are exhausted there.
+/// The first place at which lists of 70 payloads are not stopped as one by one, if numbers are
+/// exhausted there.
 fn first_exhaustion_that_differs(
     alloc: Global,
     numbers: Numbers,
@@ -68,7 +69,8 @@ fn stops_where_numbers_are_exhausted(rt: HostRuntime) -> Result<(), Fail> {
     Ok(())
 }
 
-/// The first place at which lists of 70 payloads are not stopped as one by one, if the payload there is too long.
+/// The first place at which lists of 70 payloads are not stopped as one by one, if the payload there is
+/// too long.
 fn first_long_payload_that_differs(alloc: Global) -> Result<Option<usize>, AllocError> {
     let text = text(alloc)?;
     for place in &[0, 1, 5, 7, 8, 9, 63, 64, 65, 69] {

@@ -8,7 +8,8 @@ use policy::{
 };
 use std::process::Abort;
 
-/// 2001:db8::a01 and 2001:db8::b01, and the networks 2001:db8::a00 to ::aff and 2001:db8::b00 to ::bff that they lie in.
+/// 2001:db8::a01 and 2001:db8::b01, and the networks 2001:db8::a00 to ::aff and 2001:db8::b00 to ::bff
+/// that they lie in.
 const SOURCE: u128 = 0x2001_0db8_0000_0000_0000_0000_0000_0a01;
 
 const TARGET: u128 = 0x2001_0db8_0000_0000_0000_0000_0000_0b01;

@@ -37,7 +37,8 @@ const REFUSED: Result<Flow, InnerFault> = Err(InnerFault::BadInner);
 
 const FRAGMENT: Result<Flow, InnerFault> = Err(InnerFault::Fragment);
 
-/// The length of a packet, a place, the octet that stands there in place of the packet's own, and what the packet is.
+/// The length of a packet, a place, the octet that stands there in place of the packet's own, and what
+/// the packet is.
 type Row = (usize, usize, u8, Result<Flow, InnerFault>);
 
 /// The packet with one octet replaced, filled up to 28 octets.

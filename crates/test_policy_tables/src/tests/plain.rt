@@ -1,4 +1,5 @@
-//! The sets of points once more, by plain search: tiny selectors of both families, and all points that tell them apart.
+//! The sets of points once more, by plain search: tiny selectors of both families, and all points that
+//! tell them apart.
 use base::{Address, Range, Selector};
 use policy::Point;
 

@@ -96,7 +96,8 @@ fn exchanges_the_sides_inward(rt: HostRuntime) {
     }
 }
 
-/// What the entry for web servers on the remote side decides of a flow outward between these ports, and of its answer.
+/// What the entry for web servers on the remote side decides of a flow outward between these ports, and
+/// of its answer.
 fn decisions_of_web(rt: &impl Abort, alloc: Global, source: u16, target: u16) -> [Decision; 2] {
     let web = Entry {
         remote_ports: (443, 443),

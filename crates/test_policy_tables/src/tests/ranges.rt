@@ -66,7 +66,8 @@ fn covers_a_point(rt: &impl Abort, selector: &Selector, point: Point) {
     );
 }
 
-/// An entry between two of the tiny selectors, with the first one's protocol and family, and each range in order.
+/// An entry between two of the tiny selectors, with the first one's protocol and family, and each range
+/// in order.
 fn entry_of(local: &Selector, remote: &Selector, action: Action) -> Entry {
     Entry {
         protocol: local.protocol,
@@ -136,14 +137,16 @@ fn chosen<'a>(
     None
 }
 
-/// Whether an answered selector has exactly the common points of a side and the offered one that it stands for.
+/// Whether an answered selector has exactly the common points of a side and the offered one that it
+/// stands for.
 fn is_common(side: &Selector, offered: &Selector, answer: &Selector) -> bool {
     !some_point(&|point: &Point| {
         holds(answer, point) != (holds(offered, point) && holds(side, point))
     })
 }
 
-/// Whether each answered selector stands for one that was offered and has a point in the side, all of them in their order.
+/// Whether each answered selector stands for one that was offered and has a point in the side, all of
+/// them in their order.
 fn is_narrowed(side: &Selector, offered: &[Selector], answer: &[Selector]) -> bool {
     let mut rest = answer;
     for selector in offered {

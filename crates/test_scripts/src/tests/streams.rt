@@ -2,7 +2,8 @@
 use std::alloc::Global;
 use std::io::{Error, ErrorKind, Read, Result, Write};
 
-/// Gives one octet at each second read, and is interrupted at the others; fails where `fails_at` octets are left.
+/// Gives one octet at each second read, and is interrupted at the others; fails where `fails_at` octets
+/// are left.
 #[derive(Drop)]
 pub struct Slow<'a> {
     left: &'a [u8],
@@ -40,8 +41,8 @@ impl Read for Slow<'_> {
     }
 }
 
-/// Takes at most three octets at each second write, and is interrupted at the others; once `room` octets were written, the
-/// next write fails, or takes nothing, and all after it would succeed.
+/// Takes at most three octets at each second write, and is interrupted at the others; once `room`
+/// octets were written, the next write fails, or takes nothing, and all after it would succeed.
 #[derive(Drop)]
 pub struct Narrow {
     pub written: Vec<u8>,

@@ -80,7 +80,8 @@ fn beside_a_critical_payload(rt: HostRuntime) {
     holds(&rt, b.table.after(0).is_none());
 }
 
-/// The answer names the SPI under which B receives by that child, in a Delete of ESP (RFC 7296, section 1.4.1).
+/// The answer names the SPI under which B receives by that child, in a Delete of ESP (RFC 7296, section
+/// 1.4.1).
 #[test]
 fn the_answer_names_the_other_spi(rt: HostRuntime) {
     let alloc = rt.alloc();
@@ -88,7 +89,8 @@ fn the_answer_names_the_other_spi(rt: HostRuntime) {
     let [a, c, d, e] = inbound_spi(&rt, &b).to_be_bytes();
     let asked = deletion(&rt, alloc, FIRST, 1);
     let (reply, _) = reply_to(&rt, alloc, &mut b, delete(2), &asked).expect(&rt, "an answer");
-    // Behind the header and that of SK, whose next payload stands first: the payload, the pad length, the ICV.
+    // Behind the header and that of SK, whose next payload stands first: the payload, the pad length,
+    // the ICV.
     same(&rt, reply.as_slice().get(28).copied(), Some(DELETE));
     let named = [0, 0, 0, 12, 3, 4, 0, 1, a, c, d, e];
     same(&rt, reply.as_slice().get(32..44), Some(named.as_slice()));

@@ -32,7 +32,8 @@ const SELECTORS: [u8; 48] = [
     0, 0, 0, 24, 1, 0, 0, 0, 7, 0, 0, 16, 0, 0, 0xff, 0xff, 10, 1, 0, 0, 10, 1, 0, 255,
 ];
 
-/// Adds what offers ENCR_NULL and AUTH_HMAC_SHA2_256_128 with numbers of either size, before a payload of this type.
+/// Adds what offers ENCR_NULL and AUTH_HMAC_SHA2_256_128 with numbers of either size, before a payload
+/// of this type.
 fn add_offer(rt: &impl Abort, octets: &mut Vec<u8>, next: u8, protocol: u8) {
     add(
         rt,
@@ -94,8 +95,8 @@ fn offer(number: u32) -> Sent {
     }
 }
 
-/// What becomes of a request of these payloads: how many octets answer and whether B closes, whether its first child stays, and under which
-/// SPI it sends by a further one.
+/// What becomes of a request of these payloads: how many octets answer and whether B closes, whether
+/// its first child stays, and under which SPI it sends by a further one.
 type Outcome = (Option<(usize, bool)>, bool, Option<u32>);
 
 fn outcome(rt: &impl Abort, alloc: Global, payloads: &[u8]) -> Outcome {
@@ -159,7 +160,8 @@ fn refusal(alloc: Global, b: &mut Side) -> Option<IkeFault> {
     b.refusal(alloc, &order)
 }
 
-/// What becomes of a response to it: the child that B makes of it and whether B closes, and whether its first child stays.
+/// What becomes of a response to it: the child that B makes of it and whether B closes, and whether its
+/// first child stays.
 type Conclusion = (Option<(Option<u32>, bool)>, bool);
 
 fn conclusion(rt: &impl Abort, alloc: Global, first: u8, payloads: &[u8]) -> Conclusion {

@@ -1,4 +1,5 @@
-//! Messages under A's SPI 1 and B's 2 as the caller of scripts seals them under A's key, and what B says of them.
+//! Messages under A's SPI 1 and B's 2 as the caller of scripts seals them under A's key, and what B
+//! says of them.
 use super::Side;
 use crate::tests::asserts::add;
 use base::Items;

@@ -1,4 +1,5 @@
-//! What comes to B: ESP packets that A sent, lost, repeated, reordered and damaged, and others that are made up.
+//! What comes to B: ESP packets that A sent, lost, repeated, reordered and damaged, and others that are
+//! made up.
 use crate::tests::random::Random;
 use caller_script::ScriptCaller;
 use gateway::Gateway;

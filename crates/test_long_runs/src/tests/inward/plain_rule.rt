@@ -1,4 +1,5 @@
-//! What is due to each ESP packet that comes, by a rule that never forgets a number (RFC 4303, section 3.4.3 and appendix A2).
+//! What is due to each ESP packet that comes, by a rule that never forgets a number (RFC 4303, section
+//! 3.4.3 and appendix A2).
 use std::alloc::Global;
 use std::collections::BTreeSet;
 use std::process::Abort;

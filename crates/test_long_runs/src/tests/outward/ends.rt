@@ -39,8 +39,8 @@ fn entry(end: End, a: Range, b: Range, protocol: u8, ports: (u16, u16), action: 
 /// How many entries of the policy protect, from the first one on.
 pub const PROTECTING: u64 = 4;
 
-/// What an end does: it protects what goes between 10.0.0.0/24, A's network, and 10.1.0.0/24, B's, but for some ports, and passes by
-/// what goes to 10.2.0.0/24.
+/// What an end does: it protects what goes between 10.0.0.0/24, A's network, and 10.1.0.0/24, B's, but
+/// for some ports, and passes by what goes to 10.2.0.0/24.
 pub fn policy(alloc: Global, end: End) -> Result<Policy, Fail> {
     let all = (0, 65535);
     let a = network(0x0a00_0000, 256);

@@ -7,7 +7,8 @@ pub fn next_packet(random: &mut Random) -> [u8; 28] {
     octets(few, random)
 }
 
-/// An IPv4 packet of eight octets behind its header. It goes to a network that is protected, to one that is bypassed, or to neither.
+/// An IPv4 packet of eight octets behind its header. It goes to a network that is protected, to one
+/// that is bypassed, or to neither.
 fn octets(few: bool, random: &mut Random) -> [u8; 28] {
     let network = match random.below(16) {
         0 => 2,

@@ -1,4 +1,5 @@
-//! Packets on their way out, with children made, marked and removed between them, and what is wrong of what came of them.
+//! Packets on their way out, with children made, marked and removed between them, and what is wrong of
+//! what came of them.
 use super::ends::{Ends, PROTECTING, policy};
 use super::packets::next_packet;
 use super::wanted::{Wanted, wanted_of};
@@ -12,8 +13,8 @@ use std::test::Fail;
 /// How many packets go out between two changes, on average.
 const PACKETS: u64 = 100;
 
-/// How many packets were wanted to be treated so, how often a pair came, was marked and went, and the place of the first packet of which
-/// something else came than a look-up finds.
+/// How many packets were wanted to be treated so, how often a pair came, was marked and went, and the
+/// place of the first packet of which something else came than a look-up finds.
 #[derive(Drop)]
 pub struct Played {
     pub carried: usize,
@@ -184,7 +185,8 @@ impl Game {
         }
     }
 
-    /// A orders that a child be deleted, once what was on its way has come: it is marked, and its request is on its way.
+    /// A orders that a child be deleted, once what was on its way has come: it is marked, and its
+    /// request is on its way.
     fn mark(&mut self, alloc: Global) -> Result<(), AllocError> {
         self.answer(alloc)?;
         let order = Input::DeleteChild {

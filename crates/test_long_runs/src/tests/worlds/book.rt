@@ -1,5 +1,5 @@
-//! What a plain program writes down of a world: which packet was sealed under which number, which went up, and how many requests were
-//! issued under which keys.
+//! What a plain program writes down of a world: which packet was sealed under which number, which went
+//! up, and how many requests were issued under which keys.
 use gateway::{Child, Datagram, End, Protection, Simplex};
 use std::alloc::{AllocError, Global};
 use std::collections::{BTreeMap, BTreeSet};

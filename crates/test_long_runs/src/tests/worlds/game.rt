@@ -253,7 +253,8 @@ impl Game {
         Ok(self.delivery(place, octets, false))
     }
 
-    /// One of the last forty comes, for the first time or again, one in four damaged, and one in eight to its own sender.
+    /// One of the last forty comes, for the first time or again, one in four damaged, and one in eight
+    /// to its own sender.
     fn deliver_late(&mut self, alloc: Global) -> Result<OwnedEvent, AllocError> {
         let back = self.random.below(40) as usize;
         let last = self.world.datagrams().len().saturating_sub(1);

@@ -78,8 +78,8 @@ fn answers(rt: &impl Abort, alloc: Global) -> [bool; 3] {
     ]
 }
 
-// Another identity and another nonce; a critical payload is passed over, by the rule of this implementation, and of two proofs
-// none counts.
+// Another identity and another nonce; a critical payload is passed over, by the rule of this
+// implementation, and of two proofs none counts.
 fn established_answers(rt: &impl Abort, alloc: Global) -> [bool; 5] {
     [
         established_by(rt, alloc, b"b.example", &[8; 16]),

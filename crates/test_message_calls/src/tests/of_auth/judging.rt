@@ -36,7 +36,8 @@ const PROVING: Proving<'static> = Proving {
     sk_p: &[5; 32],
 };
 
-// The number of the notice by which an end that waits for "a.example" of type 2 refuses a request, 0 where it accepts it.
+// The number of the notice by which an end that waits for "a.example" of type 2 refuses a request, 0
+// where it accepts it.
 fn refusal(rt: &impl Abort, alloc: Global, payloads: &[Payload]) -> u16 {
     let peer = identity(rt, alloc, 2, b"a.example");
     match judge(alloc, &ScriptCaller, &peer, &PROVING, payloads).expect(rt, "memory") {
@@ -168,8 +169,8 @@ fn what_is_sent_and_asked(rt: HostRuntime) {
     same(&rt, requests(&rt, rt.alloc()), [true; 5]);
 }
 
-// AUTHENTICATION_FAILED is 24 (section 2.21.2). Before the identity is looked at comes INVALID_SYNTAX, 7 (section 3.10.1), and
-// before that UNSUPPORTED_CRITICAL_PAYLOAD, 1 (section 2.5).
+// AUTHENTICATION_FAILED is 24 (section 2.21.2). Before the identity is looked at comes INVALID_SYNTAX,
+// 7 (section 3.10.1), and before that UNSUPPORTED_CRITICAL_PAYLOAD, 1 (section 2.5).
 #[test]
 fn what_is_refused(rt: HostRuntime) {
     same(&rt, refusals(&rt, rt.alloc()), [24, 24, 0, 24, 24, 7, 7, 1]);

@@ -36,7 +36,8 @@ fn are_accepted(rt: &impl Abort, alloc: Global, ts_i: &[Selector], ts_r: &[Selec
     pair_by(rt, alloc, answer.as_slice(), true).is_some()
 }
 
-/// The place of the first answer of these that is not judged as it is to be: with extended numbers offered or not, a proposal's number, its SPI and its suite.
+/// The place of the first answer of these that is not judged as it is to be: with extended numbers
+/// offered or not, a proposal's number, its SPI and its suite.
 fn each_accepted(
     rt: &impl Abort,
     alloc: Global,
@@ -59,8 +60,8 @@ fn accepts_what_was_offered(rt: HostRuntime) {
         (false, 1, START, Suite::Plain),
     ];
     same(&rt, each_accepted(&rt, rt.alloc(), &offered, true), None);
-    // The number is another, or the SPI one of those that are reserved (RFC 4303, section 2.1). Then transforms that were not
-    // offered.
+    // The number is another, or the SPI one of those that are reserved (RFC 4303, section 2.1). Then
+    // transforms that were not offered.
     let others = [
         (true, 2, START, Suite::Plain),
         (true, 1, 255, Suite::Plain),

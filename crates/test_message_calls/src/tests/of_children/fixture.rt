@@ -1,5 +1,5 @@
-//! What the tests share: an initiator for 10.0.0.0/24, a responder for 10.1.0.0/16, and the payloads between them. Values come
-//! from functions without a contract, so that a test is proved without them.
+//! What the tests share: an initiator for 10.0.0.0/24, a responder for 10.1.0.0/16, and the payloads
+//! between them. Values come from functions without a contract, so that a test is proved without them.
 ghost use Rattle.replay.specs.Window.{IsBlockCount};
 
 use crate::tests::asserts::{granted, same};

@@ -107,7 +107,8 @@ fn open<'a>(rt: &impl Abort, table: &mut Table, spi: u32, packet: &'a [u8]) -> &
         .payload
 }
 
-/// Seals a payload at one end and finds that the other opens it; each is told by the SPI that it receives under.
+/// Seals a payload at one end and finds that the other opens it; each is told by the SPI that it
+/// receives under.
 fn cross(
     rt: &impl Abort,
     alloc: Global,

@@ -105,7 +105,8 @@ fn both_ends_have_one_record(rt: HostRuntime) {
     holds(&rt, keys == agreed.record);
 }
 
-// A message of 148 octets without the last octet of its public value: 31 are left, which the agreement of the caller of scripts refuses.
+// A message of 148 octets without the last octet of its public value: 31 are left, which the agreement
+// of the caller of scripts refuses.
 fn shortened(rt: &impl Abort, alloc: Global, octets: &[u8]) -> Vec<u8> {
     let mut shortened = Vec::new(alloc);
     for (place, octet) in octets.iter().enumerate() {

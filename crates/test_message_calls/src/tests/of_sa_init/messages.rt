@@ -1,5 +1,5 @@
-// What is sent, beside the octets that a Python program makes of RFC 7296, sections 2.6 and 3. Of a long message its keyed hash is
-// compared, under the key "test".
+// What is sent, beside the octets that a Python program makes of RFC 7296, sections 2.6 and 3. Of a
+// long message its keyed hash is compared, under the key "test".
 ghost use Rattle.std.specs.Prelude.{◌≤◌, length};
 ghost use Rattle.std.specs.Option.{ForSome};
 

@@ -58,7 +58,8 @@ enum Sample {
     Deletion(u8, usize),
     /// A proposal with an SPI of so many octets and so many transforms.
     Proposal(usize, usize),
-    /// A proposal whose transform has an attribute of this type, in the short form, or in the long one with so many octets.
+    /// A proposal whose transform has an attribute of this type, in the short form, or in the long one
+    /// with so many octets.
     Short(u16),
     Long(u16, usize),
     /// Two proposals of these numbers.
@@ -320,8 +321,9 @@ fn limits_and_numbers_of_proposals(rt: HostRuntime) {
     none_differs(&rt, first_differing(&rt, rt.alloc(), &PROPOSALS));
 }
 
-// A payload's length field has two octets and counts the payload's header of 4 (RFC 7296, section 3.2), so at most 65531 octets are behind
-// it. For each form the most that has a spelling, where only the message is too long, and the least that has none.
+// A payload's length field has two octets and counts the payload's header of 4 (RFC 7296, section 3.2),
+// so at most 65531 octets are behind it. For each form the most that has a spelling, where only the
+// message is too long, and the least that has none.
 const LONGEST: [Row; 13] = [
     (Sample::Octets(Kind::Sealed, 65531), 9, None),
     (Sample::Octets(Kind::Sealed, 65532), 4, Some(28)),
@@ -333,7 +335,8 @@ const LONGEST: [Row; 13] = [
     (Sample::Notify(0, 65528), 8, Some(28)),
     (Sample::Notify(255, 65272), 9, None),
     (Sample::Notify(255, 65273), 8, Some(28)),
-    // 4 before a deletion's SPIs of 4 octets each (section 3.11): 65532 octets are its most, 65536 are too many
+    // 4 before a deletion's SPIs of 4 octets each (section 3.11): 65532 octets are its most, 65536 are
+    // too many
     (Sample::Deletion(3, 16381), 9, None),
     (Sample::Deletion(3, 16382), 8, Some(28)),
     // 65536 octets of SPIs, and as many SPIs as their count can't say
@@ -346,8 +349,9 @@ fn the_longest_payloads(rt: HostRuntime) {
     none_differs(&rt, first_differing(&rt, rt.alloc(), &LONGEST));
 }
 
-// A long attribute's length field counts its value alone (RFC 7296, section 3.3.5), before which 4 octets stand. Those of the transform,
-// the proposal and the payload count their headers too, of 8, 8 and 4 octets (sections 3.3.2, 3.3.1 and 3.2).
+// A long attribute's length field counts its value alone (RFC 7296, section 3.3.5), before which 4
+// octets stand. Those of the transform, the proposal and the payload count their headers too, of 8, 8
+// and 4 octets (sections 3.3.2, 3.3.1 and 3.2).
 const LONG_ATTRIBUTES: [Row; 8] = [
     // the most that fits everywhere: only the message is too long
     (Sample::Long(1, 65511), 9, None),

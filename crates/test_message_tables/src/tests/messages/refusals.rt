@@ -39,7 +39,8 @@ fn lengths_of_data(rt: HostRuntime) {
     }
 }
 
-/// What is said of a deletion of this protocol with this size and count of SPIs, and so many octets behind them.
+/// What is said of a deletion of this protocol with this size and count of SPIs, and so many octets
+/// behind them.
 fn refusal_of_deletion(
     rt: &impl Abort,
     alloc: Global,

@@ -115,7 +115,8 @@ fn choice(rt: &impl Abort, alloc: Global, ours: &Wanted, theirs: &Wanted) -> Opt
     )
 }
 
-// Whether what one end offered and the other answers is accepted, with this use of extended numbers and the SPI of the answer.
+// Whether what one end offered and the other answers is accepted, with this use of extended numbers and
+// the SPI of the answer.
 fn is_agreed(
     rt: &impl Abort,
     alloc: Global,

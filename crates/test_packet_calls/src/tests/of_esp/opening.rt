@@ -31,7 +31,8 @@ fn refuses_lengths(
     }
 }
 
-// Below the shortest packet, off the words of four octets, and above the longest packet no number is looked at.
+// Below the shortest packet, off the words of four octets, and above the longest packet no number is
+// looked at.
 #[test]
 fn refuses_other_lengths(rt: HostRuntime) {
     let mut receiver = Receiver::new(rt.alloc(), false);
@@ -54,7 +55,8 @@ fn padded(rt: &impl Abort, alloc: Global, payload: usize, pad: u8) -> Vec<u8> {
     contents
 }
 
-/// Finds that packets under these numbers, of so many octets of payload and of padding, have so many octets and open.
+/// Finds that packets under these numbers, of so many octets of payload and of padding, have so many
+/// octets and open.
 fn opens_padded(
     rt: &impl Abort,
     alloc: Global,
@@ -92,7 +94,8 @@ fn opens_every_padding_that_aligns(rt: HostRuntime) {
     receiver.refuses(&rt, &long, EspFault::BadLength);
 }
 
-/// Finds that packets of these contents, numbered from 1 on, are refused for their padding, and then as repeated.
+/// Finds that packets of these contents, numbered from 1 on, are refused for their padding, and then as
+/// repeated.
 fn refuses_padding(rt: &impl Abort, alloc: Global, receiver: &mut Receiver, cases: &[&[u8]]) {
     for (contents, number) in cases.iter().zip(1..) {
         let packet = granted(rt, packet(alloc, number, contents, &[]));

@@ -28,7 +28,8 @@ fn seals_and_appends(rt: HostRuntime) {
     same(&rt, other, second().as_slice());
 }
 
-/// Finds how long a packet with so many octets 5a is, that they stand in it behind number 1, and what stands behind them.
+/// Finds how long a packet with so many octets 5a is, that they stand in it behind number 1, and what
+/// stands behind them.
 fn pads(rt: &impl Abort, alloc: Global, rows: &[(usize, usize, &[u8])]) {
     for (octets, length, end) in rows {
         let payload = granted(rt, vec![in alloc; 0x5a; *octets]);

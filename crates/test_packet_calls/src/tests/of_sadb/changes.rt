@@ -43,8 +43,8 @@ impl Both {
         release(&mut self.table, spi);
     }
 
-    /// Reserves four SPIs. The third's pair comes first, the second is given up, the first's pair comes last, and the
-    /// fourth stays reserved.
+    /// Reserves four SPIs. The third's pair comes first, the second is given up, the first's pair comes
+    /// last, and the fourth stays reserved.
     fn install_out_of_order(&mut self, rt: &impl Abort, network: Network) {
         let first = reserve(&mut self.table).expect(rt, "an SPI");
         let second = reserve(&mut self.table).expect(rt, "an SPI");

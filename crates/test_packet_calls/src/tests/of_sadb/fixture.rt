@@ -1,4 +1,5 @@
-//! What the tests share: pairs that carry what goes to a few networks, and questions that tell what a call may be asked for.
+//! What the tests share: pairs that carry what goes to a few networks, and questions that tell what a
+//! call may be asked for.
 ghost use Rattle.std.specs.Prelude.{◌≡◌, ◌≢◌, ℕ, Some, IsTrue, IfOk, IfSome};
 ghost use Rattle.sadb.specs.Database.{IsReserved, pair_at, IsThere, IsLive, IsForPair};
 
@@ -154,7 +155,8 @@ pub fn is_live(table: &Table, serial: u32) -> bool
     }
 }
 
-/// Whether a packet may be handed to the pair with this serial: its first four octets, where it has four, are the SPI.
+/// Whether a packet may be handed to the pair with this serial: its first four octets, where it has
+/// four, are the SPI.
 pub fn is_for(table: &Table, serial: u32, packet: &[u8]) -> bool
     ensures { IsTrue result → IsForPair table.now.pairs serial packet.now }
 {

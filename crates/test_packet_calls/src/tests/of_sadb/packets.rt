@@ -1,4 +1,5 @@
-//! Packets between two tables whose pairs mirror each other. The expected packet is the one that Python's module `hmac` gives.
+//! Packets between two tables whose pairs mirror each other. The expected packet is the one that
+//! Python's module `hmac` gives.
 use super::fixture::{
     KEY, Network, PEER_KEY, START, here, is_for, is_live, is_there, pair_of, receiver, reserve,
 };
@@ -45,8 +46,8 @@ impl Ends {
         }
     }
 
-    /// Installs a pair at one end and its mirror at the other; answers the serial of both. The near end sealed its last
-    /// packet with the number `last`.
+    /// Installs a pair at one end and its mirror at the other; answers the serial of both. The near end
+    /// sealed its last packet with the number `last`.
     fn connect(&mut self, rt: &impl Abort, alloc: Global, network: Network, last: u64) -> u32 {
         let near = reserve(&mut self.near).expect(rt, "an SPI");
         let inbound = receiver(alloc, near.number(), &KEY).expect(rt, "memory");

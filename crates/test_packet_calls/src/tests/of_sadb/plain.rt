@@ -114,7 +114,8 @@ impl Plain {
         }
     }
 
-    /// Compares the answers of a table for flows, for serials, and for SPIs that are held or lie near the next one.
+    /// Compares the answers of a table for flows, for serials, and for SPIs that are held or lie near
+    /// the next one.
     pub fn agrees(&self, rt: &impl Abort, table: &Table) {
         // Reserved or gone of late, and never given.
         self.agrees_from(rt, table, self.spi.saturating_sub(8));

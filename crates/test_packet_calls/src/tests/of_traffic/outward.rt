@@ -94,7 +94,8 @@ fn inward() -> [u8; 20] {
     packet
 }
 
-/// What becomes of such a packet that comes in where the near end does this with what goes between the networks.
+/// What becomes of such a packet that comes in where the near end does this with what goes between the
+/// networks.
 fn in_under(rt: &impl Abort, alloc: Global, action: Action, packet: &[u8]) -> Way {
     let policy = policy(alloc, Networks::ipv4(), action).expect(rt, "memory");
     way_in(admit(&policy, packet))

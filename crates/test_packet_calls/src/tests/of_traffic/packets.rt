@@ -5,7 +5,8 @@ use std::alloc::Global;
 use std::process::Abort;
 use traffic::{Arrival, Departure, receive, send};
 
-/// Finds that a packet goes sealed, in so many octets, comes to the other end as it was, and is refused when it is repeated.
+/// Finds that a packet goes sealed, in so many octets, comes to the other end as it was, and is refused
+/// when it is repeated.
 fn crosses(rt: &impl Abort, alloc: Global, networks: Networks, packet: &[u8], length: usize) {
     let mut ends = Ends::connected(alloc, networks, 0).expect(rt, "memory");
     let Departure::Sealed {
@@ -36,7 +37,8 @@ fn packets_of_both_families_cross_once(rt: HostRuntime) {
     crosses(&rt, rt.alloc(), Networks::ipv6(), &ipv6(), 68);
 }
 
-/// Finds what comes of a payload under a next header, sealed at the near end. Its number is taken, whatever comes of it.
+/// Finds what comes of a payload under a next header, sealed at the near end. Its number is taken,
+/// whatever comes of it.
 fn comes(rt: &impl Abort, alloc: Global, next: u8, payload: &[u8], code: Option<u8>) {
     let mut ends = Ends::connected(alloc, Networks::ipv4(), 0).expect(rt, "memory");
     let octets = seal(rt, alloc, &mut ends.near, next, payload);

@@ -1,4 +1,5 @@
-//! Messages shown over readers and writers in memory. They and their lines were written by a Python program of its own.
+//! Messages shown over readers and writers in memory. They and their lines were written by a Python
+//! program of its own.
 use crate::tests::asserts::same;
 use crate::tests::streams::{Narrow, Slow};
 use gw_console::FILE_LIMIT;

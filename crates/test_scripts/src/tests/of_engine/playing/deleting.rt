@@ -10,7 +10,8 @@ const WIDE: &str =
 #[test]
 fn children(rt: HostRuntime) {
     let rows = [
-        // Each end deletes the same child at once: its pair is Deleting, stays till the own request is answered, and isn't named.
+        // Each end deletes the same child at once: its pair is Deleting, stays till the own request is
+        // answered, and isn't named.
         (
             "delete A 1\ndelete B 1\ndeliver 5\ndeliver 6\ndeliver 7\ndeliver 8\ntable A\ntable B\n",
             "request 5 ike 1 length 61\nrequest 6 ike 1 length 61\nreply 7 length 49\nreply 8 length 49\n\
@@ -87,7 +88,8 @@ fn associations(rt: HostRuntime) {
     for (rest, wanted) in rows {
         expect_two(&rt, [OPENING, ESTABLISH, rest], [ESTABLISHED, wanted]);
     }
-    // With windows of four: no further order is taken, though the peer's window is not full; what is being deleted comes first.
+    // With windows of four: no further order is taken, though the peer's window is not full; what is
+    // being deleted comes first.
     let wide = [
         (
             "probe A 1\nclose A 1\nprobe A 1\ndelete A 1\nclose A 1\ntable A\n",

@@ -50,8 +50,8 @@ fn a_refusal_that_is_not_written(rt: HostRuntime) {
     }
 }
 
-/// Without memory the program says so, or an end refuses for it, and what is printed before is as ever. The writer takes
-/// no memory, so that a run in which one growth fails tests the program alone.
+/// Without memory the program says so, or an end refuses for it, and what is printed before is as ever.
+/// The writer takes no memory, so that a run in which one growth fails tests the program alone.
 #[test]
 fn want_of_memory_is_named(rt: HostRuntime) {
     let mut room = [0; 256];

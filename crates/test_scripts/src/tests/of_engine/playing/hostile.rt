@@ -1,4 +1,5 @@
-//! What comes changed at each of its octets, or cut at each length: it is dropped, and what was sent is taken afterwards as it is.
+//! What comes changed at each of its octets, or cut at each length: it is dropped, and what was sent is
+//! taken afterwards as it is.
 use super::two::{ESTABLISH, ESTABLISHED, OPENING, expect_two};
 use std::panic::Expect;
 use std::process::Abort;

@@ -103,7 +103,8 @@ fn moments(rt: HostRuntime) {
             "request 1 ike 1 length 148\nreply 2 length 148\nrepeat 3 length 148\nsame yes\nticked\nrepeat 4 length 148\n\
             ticked\nreply 5 length 148\nsame no\n",
         ),
-        // Two requests are due at one moment, which comes late: each goes out once. An earlier moment counts as that one.
+        // Two requests are due at one moment, which comes late: each goes out once. An earlier moment
+        // counts as that one.
         (
             "start A 0\nstart A 0\ntick A 5000\ntick A 10\ntick A 6999\ntick A 7000\n",
             "request 1 ike 1 length 148\nrequest 2 ike 2 length 148\nrequest 3 ike 1 length 148\nrequest 4 ike 2 length 148\n\
@@ -153,7 +154,8 @@ fn answered<R: Abort + AllocGlobal>(rt: &R) -> String {
     printed
 }
 
-/// A request that comes a thousand times after its reply is answered by the same octets each time, and the table stays as it is.
+/// A request that comes a thousand times after its reply is answered by the same octets each time, and
+/// the table stays as it is.
 #[test]
 fn storms(rt: HostRuntime) {
     let mut script = repeated(&rt, "deliver 5\n", 1000);

@@ -7,8 +7,8 @@ use std::ops::RangeInclusive;
 use std::panic::Expect;
 use std::process::Abort;
 
-/// No messages: another length field, another version, a payload that isn't there, a proposal of number 0, a selector of the ports
-/// 65535 to 0, a nonce of 15 octets, a public value of none.
+/// No messages: another length field, another version, a payload that isn't there, a proposal of number
+/// 0, a selector of the ports 65535 to 0, a nonce of 15 octets, a public value of none.
 const UNREAD: &str = "raw B ike 0000000000000001000000000000000000202208000000000000001d\n\
     raw B ike 0000000000000001000000000000000000302208000000000000001c\n\
     raw B ike 0000000000000001000000000000000021202208000000000000001c\n\
@@ -26,8 +26,8 @@ fn unread_messages(rt: HostRuntime) {
     expect_two(&rt, [OPENING, long.as_str(), ""], ["dropped E9\n", ""]);
 }
 
-/// The first exchange: another number, another cipher, a payload of type 200 that is critical, the refusal at A, and the request as
-/// it is.
+/// The first exchange: another number, another cipher, a payload of type 200 that is critical, the
+/// refusal at A, and the request as it is.
 const FIRST: &str = "start A 0\ndamage 1 23 01\ndamage 1 47 01\n\
     raw B ike 00000000000000010000000000000000c8202208000000000000002000800004\ndeliver 2\n\
     deliver 1\ndeliver 1\ndeliver 4\n";
@@ -37,8 +37,8 @@ const FIRST_PRINTED: &str =
     "request 1 ike 1 length 148\ndropped E32\nreply 2 length 36\nreply 3 length 37\n\
     dropped E32\nreply 4 length 148\nrepeat 5 length 148\nrequest 6 ike 1 length 202\n";
 
-/// The second exchange: another SPI, body, number (0 and 2) and role, and back to its sender. Then the response under another
-/// exchange and number, as it is, and again.
+/// The second exchange: another SPI, body, number (0 and 2) and role, and back to its sender. Then the
+/// response under another exchange and number, as it is, and again.
 const SECOND: &str =
     "damage 6 0 01\ndamage 6 48 01\ndamage 6 23 01\ndamage 6 23 03\ndamage 6 19 08\nreflect 6\n\
     deliver 6\ndamage 7 18 06\ndamage 7 23 03\ndeliver 7\ndeliver 7\n";
@@ -56,8 +56,8 @@ fn unfit_messages(rt: HostRuntime) {
     );
 }
 
-/// Packets by A's child: with wrong padding, and again; a dummy; of TCP alone; of IPv4 as of IPv6; a fragment; from another source;
-/// with an extension header; and a right one.
+/// Packets by A's child: with wrong padding, and again; a dummy; of TCP alone; of IPv4 as of IPv6; a
+/// fragment; from another source; with an extension header; and a right one.
 const CARRIED: &str =
     "raw B esp 00002000000000014500001400000000400100000a0000010a01000100000204ec6550afcec208db56397cb7b49df7fc\n\
     raw B esp 00002000000000014500001400000000400100000a0000010a01000100000204ec6550afcec208db56397cb7b49df7fc\n\
