@@ -2,6 +2,7 @@
 ghost use Rattle.std.specs.Prelude.{◌≡◌, ◌∷◌, [], IfOk};
 ghost use Rattle.children.specs.Asking.{child_request};
 
+use crate::making::spi_octets;
 use base::{Items, Selector};
 use exchange::ChildPayloads;
 use std::alloc::{AllocError, Global};
@@ -29,7 +30,7 @@ pub fn ask(alloc: Global, asked: &Asked) -> Result<ChildPayloads, AllocError>
     let wanted = Wanted::Esp {
         extended: asked.extended,
     };
-    let proposal = offer(alloc, &wanted, &asked.spi.to_be_bytes())?;
+    let proposal = offer(alloc, &wanted, &spi_octets(asked.spi))?;
     Ok(ChildPayloads {
         proposals: lone(alloc, proposal)?,
         ts_i: lone(alloc, asked.local)?,

@@ -1,6 +1,6 @@
 //! The pair of SAs, made of what the two ends agree on.
 ghost use Rattle.std.specs.Prelude.{◌≡◌, ◌≤◌, IfErr, IfOk, length};
-ghost use Rattle.byteorder.specs.Endian.{big_number};
+ghost use Rattle.byteorder.specs.Endian.{big_bytes, big_number};
 ghost use Rattle.replay.specs.Window.{IsBlockCount};
 ghost use Rattle.children.specs.Making.{terms_of};
 ghost use Rattle.children.specs.Pairs.{new_pair};
@@ -24,6 +24,15 @@ pub struct AgreedTerms<'a> {
     pub extended: bool,
     pub ts_i: &'a [Selector],
     pub ts_r: &'a [Selector],
+}
+
+/// The four octets that spell an SPI for ESP (RFC 7296, section 3.3.1).
+pub fn spi_octets(spi: u32) -> [u8; 4]
+    ensures { result ≡ big_bytes 4 spi }
+{
+    let mut octets = [0; 4];
+    BigEndian::write_u32(&mut octets, spi);
+    octets
 }
 
 /// The SA pair of the end of this role.

@@ -8,7 +8,7 @@ ghost use Rattle.children.specs.declared.fault.MemoryFault.TheVariants as child;
 ghost use Rattle.children.specs.Responding.{answered_proposals, made_of, next_spi, AddsNext, IsChildResponse, IsRefusedAtOnce, LeavesRoom};
 
 use crate::asking::lone;
-use crate::making::{AgreedTerms, make_pair, spi_of};
+use crate::making::{AgreedTerms, make_pair, spi_octets, spi_of};
 use crate::{MemoryFault, Setting};
 use base::Items;
 use exchange::{ChildOffer, ChildPayloads, Notice, Role};
@@ -132,7 +132,7 @@ fn answered_proposals(
 ) -> Result<Items<Proposal>, AllocError>
     ensures { IfOk result (λ proposals. proposals ≡ answered_proposals wanted.now chosen.now own) }
 {
-    lone(alloc, answer(alloc, wanted, chosen, &own.to_be_bytes())?)
+    lone(alloc, answer(alloc, wanted, chosen, &spi_octets(own))?)
 }
 
 /// Adds the SA pair that was made of an offer, and answers its serial. The caller asks only for a table that

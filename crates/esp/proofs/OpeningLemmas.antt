@@ -2,7 +2,7 @@
 use Rattle.std.proofs.Common.{◌≡◌, ◌≢◌, ℕ, ◌+◌, ◌-◌, ◌%◌, ◌^◌, ◌<◌, ◌≤◌, Bool, true, false, List, ◌++◌, length, take, drop, get_or, sym, ap, ◌∙◌, subst, arith, inl, inr, Result, Ok, Err, length-append, length-drop}
 use Rattle.std.specs.Prelude.{OnOk, OnErr, IfOk, IfErr}
 use Rattle.std.specs.Result.{is_err}
-use Rattle.std.proofs.lemmas.List.{take-append-drop, take-take, drop-take, take_at, drop_at, get_or-take, get_or-drop, get_or_past, length-take-le}
+use Rattle.std.proofs.lemmas.List.{take_all, take-append-drop, take-take, drop-take, take_at, drop_at, get_or-take, get_or-drop, get_or_past, length-take-le}
 use Rattle.std.proofs.lemmas.Nat.{be_bytes_4}
 use Rattle.std.proofs.lemmas.Bool.{cases_lt}
 use Rattle.byteorder.specs.Endian.{big_bytes}
@@ -11,6 +11,7 @@ use Rattle.replay.proofs.WindowFacts.{fresh}
 use Rattle.esp.specs.declared.sa.Sa.{Sa}
 use Rattle.esp.specs.Packet.{number_limit, head, check_value, PassesIntegrity}
 use Rattle.esp.specs.Judging.{low_half, IsNumber, Judges}
+use Rattle.esp.specs.Ahead.{value_of}
 use Rattle.esp.specs.Views.{Receiving}
 use Rattle.esp.specs.Opening.{Answer, IsFreshNumber, TakesNumber, HandsUp, Refuses, Step}
 use Rattle.esp.specs.declared.fault.EspFault.{EspFault}
@@ -122,6 +123,15 @@ takes_number a w w' old n is takes = record {
 
 pub unchanged : (a : Sa) (w w' : Seen) (old : Receiving) → receiving a w ≡ old → w' ≡ w → receiving a w' ≡ old
 unchanged a w w' old is same = ap (receiving a) same ∙ is
+
+-- the packet's last octets are its ICV, where they are the value that was computed
+pub is_intact : (a : Sa) (w : Seen) (old : Receiving) (n : ℕ) (b value : List ℕ) → receiving a w ≡ old
+    → take (length b - (length b - 16)) (drop (length b - 16) b) ≡ value → value ≡ value_of a n b
+    → drop (length b - 16) b ≡ check_value old.association n (take (length b - 16) b)
+is_intact a w old n b value is same right =
+    let whole : take (length b - (length b - 16)) (drop (length b - 16) b) ≡ drop (length b - 16) b =
+        take_all (length b - (length b - 16)) (drop (length b - 16) b) (omega (arith, length-drop (length b - 16) b)) in
+    sym whole ∙ same ∙ right ∙ ap (λ (r : Receiving). check_value r.association n (take (length b - 16) b)) is
 
 -- what a call for one packet answers is its step
 pub step_of : (want : Type 0) (old : Receiving) (b : List ℕ) (r : Answer) (new : Receiving)

@@ -6,6 +6,7 @@ ghost use Rattle.esp.specs.Ahead.{AreAhead, HasAhead, IsAsked, value_asked};
 ghost use Rattle.esp.specs.Delivery.{octets_of};
 
 use crate::check_values::GROUP;
+use crate::load::messages_least;
 use crate::packet::CHECK;
 use crate::sa::Sa;
 use lanes::{Task, icv_all};
@@ -40,8 +41,14 @@ pub fn ahead_at(ahead: &[Option<Ahead>], place: usize) -> Option<Ahead>
     }
 }
 
-/// The ICVs of the packets that are asked for, each at its packet's place.
-pub fn values_ahead(association: &Sa, packets: &[&[u8]], asked: &[Asked]) -> [Option<Ahead>; GROUP]
+/// The ICVs of the packets that are asked for, each at its packet's place. `least` is from how many packets on
+/// it gains time to compute them side by side.
+pub fn values_ahead(
+    association: &Sa,
+    packets: &[&[u8]],
+    asked: &[Asked],
+    least: usize,
+) -> [Option<Ahead>; GROUP]
     requires few { length asked.now ≤ GROUP }
     requires room { length packets.now ≤ GROUP }
     requires asked { All (IsAsked (octets_of packets.now)) asked.now }
@@ -51,7 +58,7 @@ pub fn values_ahead(association: &Sa, packets: &[&[u8]], asked: &[Asked]) -> [Op
     let mut values = [[0; CHECK]; GROUP];
     let count = asked.len();
     let tasks = tasks_for(association, packets, asked);
-    icv_all(&tasks[..count], &mut values[..count]);
+    icv_all(&tasks[..count], &mut values[..count], messages_least(least));
     placed(asked, &values[..count])
 }
 

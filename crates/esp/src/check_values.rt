@@ -4,6 +4,7 @@ ghost use Rattle.lanes.specs.Task.{icv_of};
 ghost use Rattle.esp.specs.Laying.{AreHighHalves, covered_sizes, packets_size, values_in, with_values};
 ghost use Rattle.esp.specs.Sealing.{FitsPacket, payloads_of};
 
+use crate::load::messages_least;
 use crate::packet::{CHECK, covered_size, high_half};
 use crate::sa::Sa;
 use lanes::{Task, icv_all};
@@ -12,8 +13,14 @@ use lanes::{Task, icv_all};
 pub const GROUP: usize = 64;
 
 /// Writes the ICVs of packets that lie one after the other and carry these payloads, with the sequence
-/// numbers after `last`.
-pub fn write_check_values(association: &Sa, last: u64, payloads: &[&[u8]], packets: &mut [u8])
+/// numbers after `last`. `least` is from how many packets on that gains time.
+pub fn write_check_values(
+    association: &Sa,
+    last: u64,
+    payloads: &[&[u8]],
+    packets: &mut [u8],
+    least: usize,
+)
     requires few { length payloads.now ≤ GROUP }
     requires fit { (i : ℕ) → i < length payloads.now → FitsPacket (get_or (payloads_of payloads.now) i []) }
     requires numbers { 1 ≤ length payloads.now → last + length payloads.now < 2 ^ 64 }
@@ -23,7 +30,14 @@ pub fn write_check_values(association: &Sa, last: u64, payloads: &[&[u8]], packe
 {
     let mut values = [[0; CHECK]; GROUP];
     let count = payloads.len();
-    compute_all(association, last, payloads, packets, &mut values[..count]);
+    compute_all(
+        association,
+        last,
+        payloads,
+        packets,
+        &mut values[..count],
+        least,
+    );
     write_all(payloads, &values[..count], packets);
 }
 
@@ -34,6 +48,7 @@ fn compute_all(
     payloads: &[&[u8]],
     packets: &[u8],
     values: &mut [[u8; CHECK]],
+    least: usize,
 )
     requires few { length payloads.now ≤ GROUP }
     requires fit { (i : ℕ) → i < length payloads.now → FitsPacket (get_or (payloads_of payloads.now) i []) }
@@ -44,7 +59,7 @@ fn compute_all(
 {
     let halves = high_halves(last, payloads.len());
     let tasks = tasks_of(association, payloads, packets, &halves);
-    icv_all(&tasks[..payloads.len()], values);
+    icv_all(&tasks[..payloads.len()], values, messages_least(least));
 }
 
 // What is asked of each packet: its covered octets, and the half of its sequence number that is not sent.

@@ -28,6 +28,8 @@ use std::marker::Model;
 pub struct Inbound<W: Window> {
     association: Sa,
     window: W,
+    // From how many packets on a list's ICVs are computed side by side.
+    lanes: usize,
 }
 
 impl<W: Window> Model for Inbound<W> {
@@ -64,7 +66,16 @@ impl<W: Window> Inbound<W> {
         Inbound {
             association: Sa { spi, key, extended },
             window,
+            lanes: PACKETS_LEAST,
         }
+    }
+
+    /// Has lists of so many packets or more have their ICVs computed side by side, as
+    /// [`Outbound::begin_lanes_at`](crate::Outbound::begin_lanes_at) has.
+    pub fn begin_lanes_at(&mut self, packets: usize)
+        ensures { self.new ≡ self.old }
+    {
+        self.lanes = packets;
     }
 
     /// The security parameters index that its packets begin with.
@@ -166,7 +177,8 @@ impl<W: Window> Inbound<W> {
         ensures refused { IfErr result (λ e. Refuses W.may_want self.old packet.now e self.new) }
     {
         let number = self.fresh_number(packet)?;
-        if !self.is_intact(packet, number, ahead) {
+        let value = self.association.value_with(number, packet, ahead);
+        if !is_check_value(&packet[packet.len() - CHECK..], &value) {
             return Err(EspFault::BadIcv);
         }
         if self.window.take(number).is_err() {
@@ -212,17 +224,6 @@ impl<W: Window> Inbound<W> {
         } else {
             (low != 0).then_some(u64::from(low))
         }
-    }
-
-    // Whether the packet's last octets are the ICV for this sequence number over the rest.
-    fn is_intact(&self, packet: &[u8], number: u64, ahead: Option<Ahead>) -> bool
-        requires long { 16 ≤ length packet.now }
-        requires ahead { IfSome ahead (IsAhead self.now.association packet.now) }
-        ensures { IsTrue result ↔ (drop (length packet.now - 16) packet.now
-            ≡ check_value self.now.association number (take (length packet.now - 16) packet.now)) }
-    {
-        let value = self.association.value_with(number, packet, ahead);
-        is_check_value(&packet[packet.len() - CHECK..], &value)
     }
 
     /// Opens packets in order, and appends for each what [`open`](Inbound::open) answers of it. The caller
@@ -309,14 +310,14 @@ impl<W: Window> Inbound<W> {
         ensures capacity { vec_capacity out.old ≤ vec_capacity out.new }
         ensures size { vec_len out.new ≡ vec_len out.old + result }
     {
-        if !gain_by_lanes(packets) {
+        if !gain_by_lanes(packets, self.lanes) {
             return self.answer_with(packets, &[], out);
         }
         let (asked, count) = self.fresh_packets(packets);
-        if count < PACKETS_LEAST {
+        if count < self.lanes {
             return self.answer_with(packets, &[], out);
         }
-        let ahead = values_ahead(&self.association, packets, &asked[..count]);
+        let ahead = values_ahead(&self.association, packets, &asked[..count], self.lanes);
         self.answer_with(packets, &ahead, out)
     }
 

@@ -10,7 +10,7 @@ ghost use Rattle.esp.specs.declared.fault.EspFault.{EspFault};
 
 use crate::check_values::{GROUP, write_check_values};
 use crate::key::IntegrityKey;
-use crate::load::gain_by_lanes;
+use crate::load::{PACKETS_LEAST, gain_by_lanes};
 use crate::packet::{CHECK, HEAD, PAYLOAD_LIMIT, TAIL, head_of, least_padding};
 use crate::precomputed::{Precomputed, Question, own_of};
 use crate::progress::Progress;
@@ -26,6 +26,8 @@ const PADDING: [u8; 3] = [1, 2, 3];
 pub struct Outbound {
     association: Sa,
     last: u64,
+    // From how many packets on a list's ICVs are computed side by side.
+    lanes: usize,
 }
 
 impl Model for Outbound {
@@ -51,7 +53,17 @@ impl Outbound {
         Outbound {
             association: Sa { spi, key, extended },
             last,
+            lanes: PACKETS_LEAST,
         }
+    }
+
+    /// Has lists of so many packets or more have their ICVs computed side by side, where they are alike: 2 is
+    /// right in a build for x86-64-v3. Without it lists begin at [`PACKETS_LEAST`](crate::PACKETS_LEAST), which
+    /// is right for x86-64-v2. Time alone depends on it.
+    pub fn begin_lanes_at(&mut self, packets: usize)
+        ensures { self.new ≡ self.old }
+    {
+        self.lanes = packets;
     }
 
     /// The security parameters index that its packets begin with.
@@ -206,7 +218,7 @@ impl Outbound {
         ensures room { UsesRoom (payloads_of payloads.now) result
             (vec_len out.old) (vec_capacity out.old) (vec_len out.new) (vec_capacity out.new) }
     {
-        if gain_by_lanes(payloads) {
+        if gain_by_lanes(payloads, self.lanes) {
             self.seal_side_by_side(next, payloads, out)
         } else {
             self.seal_each(next, payloads, out)
@@ -252,6 +264,7 @@ impl Outbound {
             last,
             &payloads[..progress.done],
             &mut out[start..],
+            self.lanes,
         );
         progress
     }

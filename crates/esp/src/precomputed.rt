@@ -7,7 +7,7 @@ ghost use Rattle.esp.specs.Precomputed.{AreAnswers, ArePrecomputed, AreQuestions
 
 use crate::ahead::Ahead;
 use crate::check_values::GROUP;
-use crate::load::gain_by_lanes;
+use crate::load::{gain_by_lanes, messages_least};
 use crate::packet::{CHECK, high_half};
 use crate::sa::Sa;
 use lanes::{Task, icv_all};
@@ -86,40 +86,29 @@ impl<'a> Question<'a> {
     }
 }
 
-impl Precomputed {
-    // The value, if it was computed with this SA's key, and for sequence numbers of the length that it has.
-    // Both keys are this end's own, so nobody learns anything by the time that it takes to compare them.
-    pub(crate) fn under(&self, association: &Sa) -> Option<Ahead>
-        ensures { (packet : List ℕ) → IsPrecomputed packet self.now
-            → IfSome result (IsAhead association.now packet) }
-    {
-        if self.extended != association.extended {
-            return None;
-        }
-        if self.key.as_slice() != association.key.octets().as_slice() {
-            return None;
-        }
-        Some(Ahead {
-            number: self.number,
-            value: self.value,
-        })
-    }
-}
-
-/// The value that was computed before, where it was computed for this SA.
+/// The value that was computed before, if it was computed with this SA's key, and for sequence numbers of the
+/// length that it has.
 pub fn own_of(association: &Sa, ahead: Option<Precomputed>) -> Option<Ahead>
     ensures { (packet : List ℕ) → IfSome ahead (IsPrecomputed packet)
         → IfSome result (IsAhead association.now packet) }
 {
-    match ahead {
-        Some(found) => found.under(association),
-        None => None,
+    let found = ahead?;
+    if found.extended != association.extended {
+        return None;
     }
+    // Both keys are this end's own, so nobody learns anything by the time that it takes to compare them.
+    if found.key.as_slice() != association.key.octets().as_slice() {
+        return None;
+    }
+    Some(Ahead {
+        number: found.number,
+        value: found.value,
+    })
 }
 
 /// The ICVs that are asked for, each at the place of its question, where it gains time to compute them side
-/// by side. Takes no memory.
-pub fn precompute(questions: &[Option<Question<'_>>]) -> [Option<Precomputed>; GROUP]
+/// by side: from `least` packets of one length on. Takes no memory.
+pub fn precompute(questions: &[Option<Question<'_>>], least: usize) -> [Option<Precomputed>; GROUP]
     requires few { length questions.now ≤ GROUP }
     ensures { (packets : ℕ → List ℕ) → AreQuestions packets questions.now
         → ArePrecomputed packets result }
@@ -128,10 +117,10 @@ pub fn precompute(questions: &[Option<Question<'_>>]) -> [Option<Precomputed>; G
         return [None; GROUP];
     };
     let (asked, count) = asked_of(questions, first);
-    if !gain_by_lanes(&asked[..count]) {
+    if !gain_by_lanes(&asked[..count], least) {
         return [None; GROUP];
     }
-    answers_to(&asked[..count])
+    answers_to(&asked[..count], least)
 }
 
 // The first question, if there is one.
@@ -171,7 +160,7 @@ fn asked_of<'a>(
     (asked, count)
 }
 
-fn answers_to(asked: &[Asked<'_>]) -> [Option<Precomputed>; GROUP]
+fn answers_to(asked: &[Asked<'_>], least: usize) -> [Option<Precomputed>; GROUP]
     requires some { 1 ≤ length asked.now }
     requires few { length asked.now ≤ GROUP }
     requires places { All (λ one. one.place < GROUP) asked.now }
@@ -181,7 +170,7 @@ fn answers_to(asked: &[Asked<'_>]) -> [Option<Precomputed>; GROUP]
     let mut values = [[0; CHECK]; GROUP];
     let count = asked.len();
     let tasks = tasks_for(asked);
-    icv_all(&tasks[..count], &mut values[..count]);
+    icv_all(&tasks[..count], &mut values[..count], messages_least(least));
     placed(asked, &values[..count])
 }
 

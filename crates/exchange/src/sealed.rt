@@ -9,6 +9,7 @@ ghost use Rattle.wire.specs.declared.payload.Payload.{Payload};
 ghost use Rattle.suite.specs.declared.keys.Keys.{Keys};
 ghost use Rattle.exchange.specs.Sealed.{HEAD_LENGTH, plain_of_message, lone_body, sealed_head, sealed_octets, IsSealed, IsSealingFaultOf, CanBeSealed};
 
+use byteorder::{BigEndian, ByteOrder};
 use std::alloc::{AllocError, Global};
 use suite::{Keys, Sealer};
 use wire::laws::{plain_spellings_are_spellings, spellings_have_their_size};
@@ -92,14 +93,18 @@ fn sealed_head(alloc: Global, clear: &[u8], body: usize) -> Result<Vec<u8>, Allo
     requires short { HEAD_LENGTH + body ≤ MESSAGE_LIMIT }
     ensures { IfOk result (λ head. head.items ≡ sealed_head clear.now body) }
 {
+    let mut length = [0; 4];
+    BigEndian::write_u32(&mut length, (HEAD_LENGTH + body) as u32);
+    let mut payload_length = [0; 2];
+    BigEndian::write_u16(&mut payload_length, (4 + body) as u16);
     let mut head = Vec::with_capacity(alloc, HEAD_LENGTH)?;
     head.extend_from_slice(&clear[..16])?;
     head.push(SEALED_TYPE)?;
     head.extend_from_slice(&clear[17..24])?;
-    head.extend_from_slice(&((HEAD_LENGTH + body) as u32).to_be_bytes())?;
+    head.extend_from_slice(&length)?;
     head.push(clear[16])?;
     head.push(0)?;
-    head.extend_from_slice(&((4 + body) as u16).to_be_bytes())?;
+    head.extend_from_slice(&payload_length)?;
     Ok(head)
 }
 

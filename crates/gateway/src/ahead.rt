@@ -16,30 +16,35 @@ pub struct Ahead {
 }
 
 impl Ahead {
-    pub(crate) fn of(table: &Table, inputs: &[Input<'_>]) -> Ahead
+    pub(crate) fn of(table: &Table, inputs: &[Input<'_>], least: usize) -> Ahead
         requires { length inputs.now ≤ GROUP }
         ensures { ArePrecomputed (packets_in (map input_view inputs.now)) result.values }
     {
         Ahead {
-            values: values_ahead(table, inputs),
+            values: values_ahead(table, inputs, least),
         }
     }
 
     /// The ICV that was computed ahead for the input at a place, if there is one.
+    #[tactic(auto, using(Rattle.std.proofs.lemmas.Option.unwrap_or-slice_get))]
     pub fn at(&self, place: usize) -> Option<Precomputed>
         ensures { result ≡ get_or self.now.values place None }
     {
-        value_at(&self.values, place)
+        self.values.get(place).copied().unwrap_or(None)
     }
 }
 
 /// The ICVs of the ESP packets among these inputs, each at its input's place. Computed only where that is
-/// faster side by side.
-pub fn values_ahead(table: &Table, inputs: &[Input<'_>]) -> [Option<Precomputed>; GROUP]
+/// faster side by side: from `least` packets of one length on.
+pub fn values_ahead(
+    table: &Table,
+    inputs: &[Input<'_>],
+    least: usize,
+) -> [Option<Precomputed>; GROUP]
     requires { length inputs.now ≤ GROUP }
     ensures { ArePrecomputed (packets_in (map input_view inputs.now)) result }
 {
-    precompute(&questions_of(table, inputs))
+    precompute(&questions_of(table, inputs), least)
 }
 
 // What the ICVs are computed from, by the table as it is at the group's beginning.
@@ -55,14 +60,4 @@ fn questions_of<'a>(table: &'a Table, inputs: &[Input<'a>]) -> [Option<Question<
         }
     }
     questions
-}
-
-/// The ICV that was computed ahead for the packet at a place, if there is one.
-pub fn value_at(ahead: &[Option<Precomputed>], place: usize) -> Option<Precomputed>
-    ensures { result ≡ get_or ahead.now place None }
-{
-    match ahead.get(place) {
-        Some(found) => *found,
-        None => None,
-    }
 }

@@ -4,22 +4,22 @@ ghost use Rattle.esp.specs.Precomputed.{ArePrecomputed, AreQuestions, IsPrecompu
 ghost use Rattle.gateway.specs.Laying.{finished_output, finished_outputs, laid_at, octets_in};
 
 use crate::Output;
-use crate::ahead::value_at;
 use base::Items;
-use esp::{GROUP, PACKETS_LEAST, Precomputed, Question, precompute};
+use esp::{GROUP, Precomputed, Question, precompute};
 use sadb::Table;
 use std::mem;
 
-/// Writes the ICV into each ESP packet of these outputs: computed side by side where that is faster, else one
-/// by one. A list of one output, as most are, needs none of the arrays.
-pub fn finish_all(table: &Table, laid: &mut [Output<'_>])
+/// Writes the ICV into each ESP packet of these outputs: computed side by side where that is faster, from
+/// `least` packets of one length on, else one by one. A list of one output, as most are, needs none of the
+/// arrays.
+pub fn finish_all(table: &Table, laid: &mut [Output<'_>], least: usize)
     requires { length laid.old ≤ GROUP }
     ensures { laid.new ≡ finished_outputs table.now.pairs laid.old }
 {
-    if laid.len() < PACKETS_LEAST {
+    if laid.len() < least {
         finish_with(table, laid, &[]);
     } else {
-        let ahead = precompute(&questions_of(table, laid));
+        let ahead = precompute(&questions_of(table, laid), least);
         finish_with(table, laid, &ahead);
     }
 }
@@ -51,7 +51,8 @@ fn finish_with(table: &Table, laid: &mut [Output<'_>], ahead: &[Option<Precomput
 {
     for place in 0..laid.len() {
         let output = mem::replace(&mut laid[place], Output::Discarded);
-        laid[place] = finished(table, output, value_at(ahead, place));
+        let value = ahead.get(place).copied().unwrap_or(None);
+        laid[place] = finished(table, output, value);
     }
 }
 

@@ -21,7 +21,7 @@ use crate::laying::finish_all;
 use crate::stepping::{lay, take};
 use crate::{Ahead, Input, Output, Traced};
 use association::Association;
-use esp::{GROUP, Precomputed};
+use esp::{GROUP, PACKETS_LEAST, Precomputed};
 use flows::FlowMemory;
 use flows::laws::answers_stay_right;
 use ike::Ike;
@@ -43,6 +43,8 @@ pub struct Gateway<C> {
     flows: FlowMemory,
     policy: Policy,
     caller: C,
+    // From how many packets on a list's ICVs are computed side by side.
+    lanes: usize,
 }
 
 impl<C> Model for Gateway<C> {
@@ -80,7 +82,22 @@ impl<C> Gateway<C> {
             flows: FlowMemory::new(alloc),
             policy,
             caller,
+            lanes: PACKETS_LEAST,
         }
+    }
+
+    /// Has lists of so many packets or more have their ICVs computed side by side, where they are alike: 2 is
+    /// right in a build for x86-64-v3. Without it lists begin at [`PACKETS_LEAST`](esp::PACKETS_LEAST), which
+    /// is right for x86-64-v2. Time alone depends on it.
+    pub fn begin_lanes_at(&mut self, packets: usize)
+        ensures { self.new ≡ self.old }
+    {
+        self.lanes = packets;
+    }
+
+    // From how many packets on lists have their ICVs computed side by side.
+    pub(crate) fn lanes(&self) -> usize {
+        self.lanes
     }
 
     /// The table of SA pairs for ESP.
@@ -171,7 +188,7 @@ impl<C: Sealer + Agreement + Proof> Gateway<C> {
         requires { length inputs.now ≤ GROUP }
         ensures { ArePrecomputed (packets_in (map input_view inputs.now)) result.values }
     {
-        Ahead::of(&self.table, inputs)
+        Ahead::of(&self.table, inputs, self.lanes)
     }
 
     /// One step as [`traced_step`](Gateway::traced_step), with an ESP packet's ICV where that was computed
@@ -227,6 +244,6 @@ impl<C: Sealer + Agreement + Proof> Gateway<C> {
         requires { length laid.old ≤ GROUP }
         ensures { laid.new ≡ finished_outputs self.now.table.pairs laid.old }
     {
-        finish_all(&self.table, laid);
+        finish_all(&self.table, laid, self.lanes);
     }
 }

@@ -8,10 +8,10 @@ ghost use Rattle.gateway.specs.Laying.{TakesNext, finished_from};
 ghost use Rattle.gateway.specs.Runs.{RunsFirst, Stops};
 ghost use Rattle.effects.specs.Taking.{meaning_of};
 
-use crate::ahead::{value_at, values_ahead};
+use crate::ahead::values_ahead;
 use crate::laws::every_run_keeps_its_promises;
 use crate::{Gateway, Input, Output, RunFault};
-use esp::{GROUP, PACKETS_LEAST, Precomputed};
+use esp::{GROUP, Precomputed};
 use std::alloc::Global;
 use suite::{Agreement, Proof, Sealer};
 
@@ -87,10 +87,10 @@ fn run_group<'a, C: Sealer + Agreement + Proof>(
     ensures capacity { vec_capacity outputs.old ≤ vec_capacity outputs.new }
     ensures size { vec_len outputs.new ≡ vec_len outputs.old + result }
 {
-    if inputs.len() < PACKETS_LEAST {
+    if inputs.len() < gateway.lanes() {
         return run_with(alloc, gateway, inputs, &[], outputs);
     }
-    let ahead = values_ahead(gateway.table(), inputs);
+    let ahead = values_ahead(gateway.table(), inputs, gateway.lanes());
     run_with(alloc, gateway, inputs, &ahead, outputs)
 }
 
@@ -122,7 +122,7 @@ fn run_with<'a, C: Sealer + Agreement + Proof>(
             gateway.finish(&mut outputs[start..]);
             return done;
         }
-        let value = value_at(ahead, done);
+        let value = ahead.get(done).copied().unwrap_or(None);
         start = take_next(alloc, gateway, input, value, outputs, start);
     }
     gateway.finish(&mut outputs[start..]);

@@ -11,7 +11,7 @@ ghost use Rattle.gateway.specs.Inputs.{input_view};
 ghost use Rattle.gateway.specs.Laying.{finished_output};
 ghost use Rattle.gateway.specs.Outputs.{output_view};
 ghost use Rattle.sadb.specs.Laying.{KeepsSenders};
-ghost use Rattle.gateway.specs.Steps.{AdmitsPacket, DoesInput, ReceivesPacket, SendsPacket, StepsIke};
+ghost use Rattle.gateway.specs.Steps.{AdmitsPacket, DoesInput, SendsPacket, StepsIke};
 ghost use Rattle.effects.specs.Taking.{meaning_of};
 
 use crate::laying::finished;
@@ -58,6 +58,7 @@ pub(crate) fn take<'a, C: Sealer + Agreement + Proof>(
     soundness_asks_for_reservations();
     no_spi_is_lost();
     answers_stay_right();
+    no_pair_comes();
     match *input {
         Input::Ike {
             from,
@@ -117,7 +118,9 @@ pub(crate) fn take<'a, C: Sealer + Agreement + Proof>(
                 caller,
             )
         }
-        Input::Esp { octets } => Traced::plain(receive_packet(table, octets, ahead)),
+        Input::Esp { octets } => {
+            Traced::plain(Output::of_arrival(receive_ahead(table, octets, ahead)))
+        }
         Input::Outward { packet } => {
             Traced::plain(send_packet(alloc, table, flows, policy, packet))
         }
@@ -193,16 +196,6 @@ fn step_machine<'a, C: Sealer + Agreement + Proof>(
             reason: Reason::Ike(fault),
         }),
     }
-}
-
-fn receive_packet<'a>(table: &mut Table, packet: &'a [u8], ahead: Option<Precomputed>) -> Output<'a>
-    requires { IfSome ahead (IsPrecomputed packet.now) }
-    ensures received { ReceivesPacket table.old packet.now (output_view result) table.new }
-    ensures reserved { table.new.reserved ≡ table.old.reserved }
-    ensures pairs { NoneComes table.old.pairs table.new.pairs }
-{
-    no_pair_comes();
-    Output::of_arrival(receive_ahead(table, packet, ahead))
 }
 
 /// Lays an outbound packet.

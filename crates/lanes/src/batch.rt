@@ -10,10 +10,9 @@ use crate::order::{BATCH, blocks_at, next_eight, places_by_blocks};
 use crate::stream::inner_digests;
 use crate::task::Task;
 
-// From how many messages of one length on eight lanes take less time than one lane alone. The default build
-// gains 1.7 times by full lanes, so eight lanes take there the time of 4.7 messages; a build for AVX2 gains
-// 4 times.
-const MESSAGES_LEAST: usize = 5;
+/// From how many messages of one length on eight lanes take less time than one lane alone, in a build for
+/// x86-64-v2: that gains 1.7 times by full lanes, so eight lanes take the time of 4.7 messages.
+pub const MESSAGES_LEAST: usize = 5;
 
 // Writes the ICVs of the messages at these places, each computed alone.
 fn write_one_by_one(tasks: &[Task<'_>], values: &mut [[u8; 16]], places: &[usize])
@@ -68,7 +67,7 @@ fn are_even(tasks: &[Task<'_>], places: &[usize], start: usize) -> bool
 
 // How many of the first messages keep the other lanes waiting for longer than the lanes gain, so that they
 // go faster alone.
-fn count_alone(tasks: &[Task<'_>], queue: &[usize]) -> usize
+fn count_alone(tasks: &[Task<'_>], queue: &[usize], least: usize) -> usize
     ensures { result ≤ length queue.now }
 {
     let mut all: usize = 0;
@@ -77,7 +76,7 @@ fn count_alone(tasks: &[Task<'_>], queue: &[usize]) -> usize
     }
     for k in 0..queue.len() {
         let blocks = blocks_at(tasks, queue[k]);
-        if all / MESSAGES_LEAST >= blocks {
+        if all >= blocks.saturating_mul(least) {
             return k;
         }
         all = all.saturating_sub(blocks);
@@ -122,13 +121,13 @@ fn write_queue(tasks: &[Task<'_>], values: &mut [[u8; 16]], queue: &[usize])
 }
 
 // Writes the ICVs of messages that have different counts of blocks, the longest first.
-fn write_uneven(tasks: &[Task<'_>], values: &mut [[u8; 16]], queue: &[usize])
+fn write_uneven(tasks: &[Task<'_>], values: &mut [[u8; 16]], queue: &[usize], least: usize)
     requires same { length values.old ≡ length tasks.now }
     requires few { length tasks.now ≤ BATCH }
     requires fit { (k : ℕ) → k < length queue.now → FitsALane tasks.now (slice_index queue.now k) }
     ensures { AreWritten tasks.now values.old values.new queue.now (length queue.now) }
 {
-    let alone = count_alone(tasks, queue);
+    let alone = count_alone(tasks, queue, least);
     write_one_by_one(tasks, values, &queue[..alone]);
     if alone < queue.len() {
         write_queue(tasks, values, &queue[alone..]);
@@ -137,7 +136,7 @@ fn write_uneven(tasks: &[Task<'_>], values: &mut [[u8; 16]], queue: &[usize])
 
 // Writes the ICVs of messages in lanes: eight that have as many blocks side by side, and the others as a
 // queue.
-fn write_in_lanes(tasks: &[Task<'_>], values: &mut [[u8; 16]], places: &[usize])
+fn write_in_lanes(tasks: &[Task<'_>], values: &mut [[u8; 16]], places: &[usize], least: usize)
     requires same { length values.old ≡ length tasks.now }
     requires few { length tasks.now ≤ BATCH }
     requires as_few { length places.now ≤ BATCH }
@@ -159,18 +158,18 @@ fn write_in_lanes(tasks: &[Task<'_>], values: &mut [[u8; 16]], places: &[usize])
             }
         }
     }
-    write_uneven(tasks, values, &queue[..queued]);
+    write_uneven(tasks, values, &queue[..queued], least);
 }
 
 // Writes the ICV of each message, at most 64 of them.
-fn write_batch(tasks: &[Task<'_>], values: &mut [[u8; 16]])
+fn write_batch(tasks: &[Task<'_>], values: &mut [[u8; 16]], least: usize)
     requires same { length values.old ≡ length tasks.now }
     requires few { length tasks.now ≤ BATCH }
     ensures { values.new ≡ map icv_of tasks.now }
 {
     let places = places_by_blocks(tasks);
     if fit_lanes(tasks) {
-        write_in_lanes(tasks, values, &places[..tasks.len()]);
+        write_in_lanes(tasks, values, &places[..tasks.len()], least);
     } else {
         write_one_by_one(tasks, values, &places[..tasks.len()]);
     }
@@ -178,14 +177,16 @@ fn write_batch(tasks: &[Task<'_>], values: &mut [[u8; 16]])
 
 /// Writes the integrity check value of each message (RFC 4868, section 2.3) into its place of `values`.
 ///
-/// The messages may have any lengths and come in any order.
-pub fn icv_all(tasks: &[Task<'_>], values: &mut [[u8; 16]])
+/// The messages may have any lengths and come in any order. `least` says from how many messages of one length
+/// on eight lanes take less time than one lane alone: [`MESSAGES_LEAST`] in a build for x86-64-v2, 2 in one for
+/// x86-64-v3, where AVX2 gains 4 times by full lanes. No value depends on it.
+pub fn icv_all(tasks: &[Task<'_>], values: &mut [[u8; 16]], least: usize)
     requires { length values.old ≡ length tasks.now }
     ensures { values.new ≡ map icv_of tasks.now }
 {
     for batch in 0..tasks.len().div_ceil(BATCH) {
         let start = BATCH * batch;
         let end = start + (tasks.len() - start).min(BATCH);
-        write_batch(&tasks[start..end], &mut values[start..end]);
+        write_batch(&tasks[start..end], &mut values[start..end], least);
     }
 }

@@ -11,7 +11,7 @@
 //! stands on the stack.
 //!
 //! ```rust
-//! use lanes::{LaneKey, Task, icv_all};
+//! use lanes::{LaneKey, MESSAGES_LEAST, Task, icv_all};
 //!
 //! let first = LaneKey::new(&[0x0b; 32]);
 //! let second = LaneKey::new(&[0x0c; 32]);
@@ -21,7 +21,7 @@
 //!     Task { key: &second, octets: b"a packet without more", more: &[] },
 //! ];
 //! let mut values = [[0; 16]; 2];
-//! icv_all(&tasks, &mut values);
+//! icv_all(&tasks, &mut values, MESSAGES_LEAST);
 //! assert_eq!(rt; values[0], mac::icv(&[0x0b; 32], &[b"a packet", &half]));
 //! ```
 //!
@@ -57,6 +57,6 @@ mod tagging;
 mod task;
 mod words;
 
-pub use batch::icv_all;
+pub use batch::{MESSAGES_LEAST, icv_all};
 pub use key::LaneKey;
 pub use task::Task;

@@ -3,6 +3,7 @@ ghost use Rattle.std.specs.Prelude.{◌≡◌, ◌≤◌, ◌+◌, ◌*◌, leng
 ghost use Rattle.suite.specs.Nonces.{IsNonce};
 
 use crate::{Keys, Nonce};
+use byteorder::{BigEndian, ByteOrder};
 use mac::{hmac, prf_plus};
 use std::fmt;
 
@@ -128,13 +129,11 @@ fn ike_material(shared: &[u8], ni: &[u8], nr: &[u8], spi_i: u64, spi_r: u64) -> 
     ensures { result ≡ ike_material shared.now ni.now nr.now spi_i spi_r }
 {
     let seed = seed_key(shared, ni, nr);
+    let mut spis = [0; 16];
+    BigEndian::write_u64(&mut spis[..8], spi_i);
+    BigEndian::write_u64(&mut spis[8..], spi_r);
     let mut material = [0; 7 * KEY];
-    prf_plus(
-        &seed,
-        &[ni, nr, &spi_i.to_be_bytes(), &spi_r.to_be_bytes()],
-        &mut material,
-    )
-    .unwrap();
+    prf_plus(&seed, &[ni, nr, &spis], &mut material).unwrap();
     material
 }
 

@@ -5,6 +5,7 @@ ghost use Rattle.wire.specs.Writing.{Writes, octets_onto, number_onto, open_onto
 ghost use Rattle.wire.specs.declared.writer.Unwritten.TheVariants.{Memory};
 
 use crate::fault::WireFault;
+use byteorder::{BigEndian, ByteOrder};
 use std::alloc::AllocError;
 
 // Why a value is not written.
@@ -47,29 +48,33 @@ pub(crate) fn push_octets(out: &mut Vec<u8>, octets: &[u8]) -> Result<(), Unwrit
 pub(crate) fn push_u16(out: &mut Vec<u8>, number: u16) -> Result<(), Unwritten>
     ensures { Writes out.new.items result (number_onto 2 number out.old.items) }
 {
-    out.extend_from_slice(&number.to_be_bytes())?;
-    Ok(())
+    let mut octets = [0; 2];
+    BigEndian::write_u16(&mut octets, number);
+    push_octets(out, &octets)
 }
 
 pub(crate) fn push_u32(out: &mut Vec<u8>, number: u32) -> Result<(), Unwritten>
     ensures { Writes out.new.items result (number_onto 4 number out.old.items) }
 {
-    out.extend_from_slice(&number.to_be_bytes())?;
-    Ok(())
+    let mut octets = [0; 4];
+    BigEndian::write_u32(&mut octets, number);
+    push_octets(out, &octets)
 }
 
 pub(crate) fn push_u64(out: &mut Vec<u8>, number: u64) -> Result<(), Unwritten>
     ensures { Writes out.new.items result (number_onto 8 number out.old.items) }
 {
-    out.extend_from_slice(&number.to_be_bytes())?;
-    Ok(())
+    let mut octets = [0; 8];
+    BigEndian::write_u64(&mut octets, number);
+    push_octets(out, &octets)
 }
 
 pub(crate) fn push_u128(out: &mut Vec<u8>, number: u128) -> Result<(), Unwritten>
     ensures { Writes out.new.items result (number_onto 16 number out.old.items) }
 {
-    out.extend_from_slice(&number.to_be_bytes())?;
-    Ok(())
+    let mut octets = [0; 16];
+    BigEndian::write_u128(&mut octets, number);
+    push_octets(out, &octets)
 }
 
 // Sets the two octets at a place.
@@ -77,7 +82,7 @@ fn set_u16(octets: &mut [u8], place: usize, number: u16)
     requires { place + 2 ≤ length octets.old }
     ensures { octets.new ≡ take place octets.old ++ big_bytes 2 number ++ drop (place + 2) octets.old }
 {
-    octets[place..place + 2].copy_from_slice(&number.to_be_bytes());
+    BigEndian::write_u16(&mut octets[place..place + 2], number);
 }
 
 // Sets the four octets at a place.
@@ -85,7 +90,7 @@ pub(crate) fn set_u32(octets: &mut [u8], place: usize, number: u32)
     requires { place + 4 ≤ length octets.old }
     ensures { octets.new ≡ take place octets.old ++ big_bytes 4 number ++ drop (place + 4) octets.old }
 {
-    octets[place..place + 4].copy_from_slice(&number.to_be_bytes());
+    BigEndian::write_u32(&mut octets[place..place + 4], number);
 }
 
 // The mark of the part at this place of so many: 0 of the last, and else what marks one with another behind

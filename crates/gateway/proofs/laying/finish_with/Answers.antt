@@ -15,7 +15,8 @@ finished-requires c =
     let h : k < length laid = search rules in
     let within : k < length before = omega (arith, h, i.long) in
     let here : get_or before k d ≡ c.replace-output.result = sym (first_left laid before k d i.rest h within) ∙ sym c.replace-output.ensures.value in
-    value_laid before c.args.ahead.now k d c.replace-output.result c.value_at.result c.requires within here c.value_at.ensures
+    let there = c.unwrap_or-value.ensures ∙ ap (λ (o : Option (Option Precomputed)). unwrap_or o None) (c.copied.ensures ∙ c.get.ensures) ∙ unwrap_or-slice_get c.args.ahead.now k None in
+    value_laid before c.args.ahead.now k d c.replace-output.result c.unwrap_or-value.result c.requires within here there
 
 pub loop-place-preserved : goal.loop-place-preserved
 loop-place-preserved c =

@@ -24,8 +24,9 @@ loop-done-init g c = record {
 pub take_next-start-requires-clause-ahead : goal.take_next-start-requires-clause-ahead
 take_next-start-requires-clause-ahead g c =
     let inputs = c.args.inputs.now in
-    value_for (map input_view inputs) c.args.ahead.now c.loop-done.done _ c.value_at-value.result c.requires.ahead (within_image input_view inputs c.loop-done.done c.loop-done-test.true)
-    (next_in_image input_view inputs c.loop-done.done _ c.loop-done-test.true) c.value_at-value.ensures
+    let there = c.unwrap_or-value.ensures ∙ ap (λ (o : Option (Option Precomputed)). unwrap_or o None) (c.copied.ensures ∙ c.get.ensures) ∙ unwrap_or-slice_get c.args.ahead.now c.loop-done.done None in
+    value_for (map input_view inputs) c.args.ahead.now c.loop-done.done _ c.unwrap_or-value.result c.requires.ahead (within_image input_view inputs c.loop-done.done c.loop-done-test.true)
+    (next_in_image input_view inputs c.loop-done.done _ c.loop-done-test.true) there
 
 pub loop-done-preserved : goal.loop-done-preserved
 loop-done-preserved g c =
