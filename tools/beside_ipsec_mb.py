@@ -27,10 +27,10 @@ LISTS = [
 ]
 
 
-def run(program, task, count, sizes):
+def run(program, task, count, sizes, *lanes):
     octets = sum(sizes[place % len(sizes)] + 80 for place in range(count))
     rounds = max(20, min(3_000, 3_000_000 // octets))
-    words = [str(word) for word in (task, rounds, count, *sizes)]
+    words = [str(word) for word in (task, *lanes, rounds, count, *sizes)]
     best, last = subprocess.run([program, *words], check=True, capture_output=True, text=True).stdout.split()
     return int(best), int(last)
 
@@ -41,7 +41,7 @@ def main():
         return 2
     wrong = []
     with tempfile.TemporaryDirectory() as folder:
-        subprocess.run(["rt", "run", "--cpu=x86-64-v3", "--", "seal", "1", "1", "64"], cwd=CRATE, check=True, stdout=subprocess.DEVNULL)
+        subprocess.run(["rt", "run", "--cpu=x86-64-v3", "--", "seal", "2", "1", "1", "64"], cwd=CRATE, check=True, stdout=subprocess.DEVNULL)
         own, other = pathlib.Path(folder) / "own", pathlib.Path(folder) / "other"
         shutil.copy(CRATE / "out" / "tool_times", own)
         source = ROOT / "tools" / "ipsec_mb" / "lists.c"
@@ -52,7 +52,7 @@ def main():
             for task, limit in zip(("seal_all", "open_all"), least):
                 turns = []
                 for _ in range(7):
-                    ours, our_last = run(own, task, count, sizes)
+                    ours, our_last = run(own, task, count, sizes, 2)
                     theirs, their_last = run(other, task, count, sizes)
                     turns.append(theirs / ours)
                     if task == "seal_all" and our_last != their_last:

@@ -37,7 +37,7 @@ def main():
     if len(sys.argv) != 2:
         sys.exit("crossing.py: a prefix is wanted, as /usr/local")
     library = pathlib.Path(sys.argv[1]).resolve() / "lib/glibc-hwcaps/x86-64-v3/libsukperin.a"
-    lists, runs = built("tool_times", "seal", "1", "1", "64"), built("tool_runs", "in", "1", "1", "64")
+    lists, runs = built("tool_times", "seal", "2", "1", "1", "64"), built("tool_runs", "in", "2", "1", "1", "64")
     with tempfile.TemporaryDirectory() as folder:
         crossing = pathlib.Path(folder) / "crossing"
         include = library.parents[3] / "include"
@@ -50,7 +50,7 @@ def main():
                 sys.exit(f"{said}{ran.stderr}crossing.py: crossing found what is said above")
             for line in re.findall(r"^\| (\d+ .*) \|$", said, re.M):
                 length, _, _, out, came, *_ = map(float, line.split(" | "))
-                words = ("200", "64", str(int(length)))
+                words = ("2", "200", "64", str(int(length)))
                 for way, task, time in (("out", "seal_all", out), ("in", "open_all", came)):
                     ratios[length, way, "esp"].append(time / best(lists, task, *words))
                     ratios[length, way, "run"].append(time / best(runs, f"{way}_all", *words))

@@ -12,6 +12,7 @@ import tempfile
 
 CRATES = pathlib.Path(__file__).resolve().parent.parent / "crates"
 TARGETS = {"default": [], "x86-64-v3": ["--cpu=x86-64-v3"]}
+LANES = {"default": 6, "x86-64-v3": 2} # from how many packets on lists begin lanes, as libsukperin has it
 
 # The count of packets and the sizes of their payloads, in turn.
 LISTS = [
@@ -43,16 +44,16 @@ def built(folder, crate, target, flags, words):
     return program
 
 
-def nanoseconds(program, task, count, sizes):
+def nanoseconds(program, task, lanes, count, sizes):
     octets = sum(sizes[place % len(sizes)] + 80 for place in range(count))
     rounds = max(20, min(3_000, 3_000_000 // octets))
-    words = [str(word) for word in (task, rounds, count, *sizes)]
+    words = [str(word) for word in (task, lanes, rounds, count, *sizes)]
     return int(subprocess.run([program, *words], check=True, capture_output=True, text=True).stdout.split()[0])
 
 
-def ratio(program, task, count, sizes):
+def ratio(program, task, lanes, count, sizes):
     """How many times as fast a call for the list is, the median of five."""
-    turns = [nanoseconds(program, task, count, sizes) / nanoseconds(program, f"{task}_all", count, sizes) for _ in range(5)]
+    turns = [nanoseconds(program, task, lanes, count, sizes) / nanoseconds(program, f"{task}_all", lanes, count, sizes) for _ in range(5)]
     return statistics.median(turns)
 
 
@@ -60,9 +61,9 @@ def times_of_lists(folder):
     """Prints the ratios of the calls of esp, and yields what is too slow."""
     print("| Packets | Target | Sealing | Opening |\n| --- | --- | --- | --- |")
     for target, flags in TARGETS.items():
-        program = built(folder, "tool_times", target, flags, "seal 1 1 64")
+        program = built(folder, "tool_times", target, flags, "seal 6 1 1 64")
         for count, sizes in LISTS:
-            found = [ratio(program, task, count, sizes) for task in ("seal", "open")]
+            found = [ratio(program, task, LANES[target], count, sizes) for task in ("seal", "open")]
             name = f"{count} of {', '.join(f'{size:,}' for size in sizes)}"
             print(f"| {name} | {target} | {found[0]:.2f} | {found[1]:.2f} |", flush=True)
             least = LEAST.get((count, tuple(sizes)), LOSS) if flags else LOSS
@@ -73,9 +74,9 @@ def times_of_runs(folder):
     """The same of lists through a gateway."""
     print("\n| Packets through a gateway | Target | In | Out |\n| --- | --- | --- | --- |")
     for target, flags in TARGETS.items():
-        program = built(folder, "tool_runs", target, flags, "in 1 1 64")
+        program = built(folder, "tool_runs", target, flags, "in 6 1 1 64")
         for (count, size), least in LEAST_RUNS.items():
-            found = [ratio(program, task, count, [size]) for task in ("in", "out")]
+            found = [ratio(program, task, LANES[target], count, [size]) for task in ("in", "out")]
             name = f"{count} of {size:,}"
             print(f"| {name} | {target} | {found[0]:.2f} | {found[1]:.2f} |", flush=True)
             bounds = least if flags else (LOSS, LOSS)

@@ -130,7 +130,7 @@ pub is_intact : (a : Sa) (w : Seen) (old : Receiving) (n : ℕ) (b value : List 
     → drop (length b - 16) b ≡ check_value old.association n (take (length b - 16) b)
 is_intact a w old n b value is same right =
     let whole : take (length b - (length b - 16)) (drop (length b - 16) b) ≡ drop (length b - 16) b =
-        take_all (length b - (length b - 16)) (drop (length b - 16) b) (omega (arith, length-drop (length b - 16) b)) in
+    take_all (length b - (length b - 16)) (drop (length b - 16) b) (omega (arith, length-drop (length b - 16) b)) in
     sym whole ∙ same ∙ right ∙ ap (λ (r : Receiving). check_value r.association n (take (length b - 16) b)) is
 
 -- what a call for one packet answers is its step

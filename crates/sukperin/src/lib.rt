@@ -70,6 +70,7 @@ mod held;
 mod hosted;
 mod inputs;
 mod keys;
+mod lanes;
 mod lists;
 mod making;
 mod output;

@@ -5,6 +5,7 @@ ghost use Rattle.sukperin.specs.Terms.{IsMakingRefusal, IsSpellingRefusal, Makes
 use crate::end::End;
 use crate::handle::SukHandle;
 use crate::hosted::{Hosted, Left};
+use crate::lanes::LANES_FROM;
 use crate::refusal::Refusal;
 use crate::terms::{SukEntry, SukTerms, caller_of, config_of, is_start, policy_of};
 use gateway::Gateway;
@@ -98,11 +99,15 @@ fn hosted(
         Err(refusal) => return Err(refusal),
     };
     match caller_of(alloc, terms, peer_id, own_secret, peer_secret) {
-        Ok(caller) => Ok(Hosted {
-            gateway: Gateway::new(alloc, config, policy, terms.first_spi, caller),
-            left: Left::Nothing,
-            tells_keys: terms.tells_keys != 0,
-        }),
+        Ok(caller) => {
+            let mut gateway = Gateway::new(alloc, config, policy, terms.first_spi, caller);
+            gateway.begin_lanes_at(LANES_FROM);
+            Ok(Hosted {
+                gateway,
+                left: Left::Nothing,
+                tells_keys: terms.tells_keys != 0,
+            })
+        }
         Err(refusal) => Err(refusal),
     }
 }

@@ -5,11 +5,13 @@ use gateway::{Gateway, Input, Output};
 use std::time::Instant;
 use test_samples::Both;
 
-/// The nanoseconds of the fastest round, in which a gateway takes so many packets of so many octets.
+/// The nanoseconds of the fastest round, in which a gateway takes so many packets of so many octets. Lists
+/// begin lanes at `lanes` packets.
 pub fn best(
     rt: &HostRuntime,
     side: Side,
     as_list: bool,
+    lanes: usize,
     rounds: usize,
     count: usize,
     octets: usize,
@@ -17,6 +19,8 @@ pub fn best(
     let packet = packet(rt.alloc(), octets)?;
     let packets = vec![in rt.alloc(); packet; count].ok()?;
     let mut both = Both::connected(rt.alloc(), true).ok()?;
+    both.a.begin_lanes_at(lanes);
+    both.b.begin_lanes_at(lanes);
     let mut best = u128::MAX;
     for _ in 0..rounds {
         best = time_of_round(rt, &mut both, side, as_list, &packets)?.min(best);

@@ -2,15 +2,15 @@
 //! `tools/speed.py` builds it for two kinds of processors, runs it and prints the ratios.
 //!
 //! ```text
-//! speed seal ROUNDS COUNT OCTETS ..        payloads sealed one by one
-//! speed seal_all ROUNDS COUNT OCTETS ..    by one call
-//! speed open ROUNDS COUNT OCTETS ..        packets opened one by one
-//! speed open_all ROUNDS COUNT OCTETS ..    by one call
-//! speed old ROUNDS COUNT OCTETS ..         packets refused one by one, since they came before
-//! speed old_all ROUNDS COUNT OCTETS ..     by one call
+//! speed seal LANES ROUNDS COUNT OCTETS ..      payloads sealed one by one
+//! speed seal_all LANES ROUNDS COUNT OCTETS ..  by one call
+//! speed open LANES ROUNDS COUNT OCTETS ..      packets opened one by one
+//! speed open_all LANES ROUNDS COUNT OCTETS ..  by one call
+//! speed old LANES ROUNDS COUNT OCTETS ..       packets refused one by one, since they came before
+//! speed old_all LANES ROUNDS COUNT OCTETS ..   by one call
 //! ```
 //!
-//! COUNT payloads have these sizes in turn. It prints the nanoseconds of the fastest of the rounds, and
+//! COUNT payloads have these sizes in turn, and lists begin lanes at LANES packets. It prints the nanoseconds of the fastest of the rounds, and
 //! an octet of what was made, so that no compiler leaves the work out. The exit status is 1 where the
 //! words ask for nothing, or something is refused.
 #![tactic(auto)]
@@ -49,7 +49,7 @@ fn number_at(words: &[String], place: usize) -> Option<usize> {
 
 // The payloads that the words ask for.
 fn payloads(alloc: Global, words: &[String]) -> Option<Vec<Vec<u8>>> {
-    let count = number_at(words, 3)?;
+    let count = number_at(words, 4)?;
     let mut payloads = Vec::new(alloc);
     for place in 0..count {
         payloads.push(payload(alloc, words, place)?).ok()?;
@@ -59,9 +59,9 @@ fn payloads(alloc: Global, words: &[String]) -> Option<Vec<Vec<u8>>> {
 
 // The payload at a place, which has one of the sizes that the words give in turn.
 fn payload(alloc: Global, words: &[String], place: usize) -> Option<Vec<u8>> {
-    let kinds = words.len().checked_sub(4)?;
+    let kinds = words.len().checked_sub(5)?;
     let kind = place.checked_rem(kinds)?;
-    let size = number_at(words, kind.checked_add(4)?)?;
+    let size = number_at(words, kind.checked_add(5)?)?;
     vec![in alloc; 7; size].ok()
 }
 
@@ -75,19 +75,20 @@ fn slices(alloc: Global, payloads: &[Vec<u8>]) -> Option<Vec<&[u8]>> {
 
 // Times the call that the words name.
 fn time_of(rt: &HostRuntime, words: &[String], payloads: &[Vec<u8>]) -> Option<()> {
-    let rounds = number_at(words, 2)?;
+    let lanes = number_at(words, 2)?;
+    let rounds = number_at(words, 3)?;
     let parts = slices(rt.alloc(), payloads)?;
-    call(rt, words.get(1)?.as_str(), rounds, &parts)
+    call(rt, words.get(1)?.as_str(), lanes, rounds, &parts)
 }
 
-fn call(rt: &HostRuntime, name: &str, rounds: usize, parts: &[&[u8]]) -> Option<()> {
+fn call(rt: &HostRuntime, name: &str, lanes: usize, rounds: usize, parts: &[&[u8]]) -> Option<()> {
     match name {
-        "seal" => seal(rt, rounds, parts, false),
-        "seal_all" => seal(rt, rounds, parts, true),
-        "open" => open(rt, rounds, parts, false),
-        "open_all" => open(rt, rounds, parts, true),
-        "old" => old(rt, rounds, parts, false),
-        "old_all" => old(rt, rounds, parts, true),
+        "seal" => seal(rt, lanes, rounds, parts, false),
+        "seal_all" => seal(rt, lanes, rounds, parts, true),
+        "open" => open(rt, lanes, rounds, parts, false),
+        "open_all" => open(rt, lanes, rounds, parts, true),
+        "old" => old(rt, lanes, rounds, parts, false),
+        "old_all" => old(rt, lanes, rounds, parts, true),
         _ => None,
     }
 }
@@ -97,8 +98,15 @@ fn report(rt: &HostRuntime, best: u128, last: Option<u8>) -> Option<()> {
     println!(rt; "{best} {}", last.unwrap_or(0)).ok()
 }
 
-fn seal(rt: &HostRuntime, rounds: usize, parts: &[&[u8]], side_by_side: bool) -> Option<()> {
+fn seal(
+    rt: &HostRuntime,
+    lanes: usize,
+    rounds: usize,
+    parts: &[&[u8]],
+    side_by_side: bool,
+) -> Option<()> {
     let mut sender = Outbound::new(SPI, &KEY, true, 0);
+    sender.begin_lanes_at(lanes);
     let mut out = Vec::new(rt.alloc());
     let mut best = u128::MAX;
     for _ in 0..rounds {
@@ -161,15 +169,26 @@ fn packet(alloc: Global, sender: &mut Outbound, payload: &[u8]) -> Option<Vec<u8
     Some(packet)
 }
 
-fn open(rt: &HostRuntime, rounds: usize, parts: &[&[u8]], side_by_side: bool) -> Option<()> {
+fn open(
+    rt: &HostRuntime,
+    lanes: usize,
+    rounds: usize,
+    parts: &[&[u8]],
+    side_by_side: bool,
+) -> Option<()> {
     let lists = lists(rt.alloc(), rounds, parts)?;
-    let best = best_opening(rt, &lists, side_by_side)?;
+    let best = best_opening(rt, lanes, &lists, side_by_side)?;
     report(rt, best, None)
 }
 
 // The nanoseconds of the list that is opened fastest.
-fn best_opening(rt: &HostRuntime, lists: &[Vec<Vec<u8>>], side_by_side: bool) -> Option<u128> {
-    let mut receiver = Receiver::new(rt.alloc())?;
+fn best_opening(
+    rt: &HostRuntime,
+    lanes: usize,
+    lists: &[Vec<Vec<u8>>],
+    side_by_side: bool,
+) -> Option<u128> {
+    let mut receiver = Receiver::new(rt.alloc(), lanes)?;
     let mut out = Vec::new(rt.alloc());
     let mut best = u128::MAX;
     for list in lists {
@@ -205,21 +224,28 @@ fn open_each(receiver: &mut Receiver, list: &[&[u8]]) -> Option<()> {
 }
 
 // Packets that were opened already.
-fn old(rt: &HostRuntime, rounds: usize, parts: &[&[u8]], side_by_side: bool) -> Option<()> {
+fn old(
+    rt: &HostRuntime,
+    lanes: usize,
+    rounds: usize,
+    parts: &[&[u8]],
+    side_by_side: bool,
+) -> Option<()> {
     let list = list(rt.alloc(), &mut Outbound::new(SPI, &KEY, true, 0), parts)?;
     let packets = slices(rt.alloc(), &list)?;
-    let best = best_refusal(rt, rounds, &packets, side_by_side)?;
+    let best = best_refusal(rt, lanes, rounds, &packets, side_by_side)?;
     report(rt, best, None)
 }
 
 // The nanoseconds of the fastest round in which packets that were opened are refused.
 fn best_refusal(
     rt: &HostRuntime,
+    lanes: usize,
     rounds: usize,
     list: &[&[u8]],
     side_by_side: bool,
 ) -> Option<u128> {
-    let mut receiver = Receiver::new(rt.alloc())?;
+    let mut receiver = Receiver::new(rt.alloc(), lanes)?;
     let mut out = Vec::new(rt.alloc());
     receiver.open_all(list, &mut out)?;
     let mut best = u128::MAX;

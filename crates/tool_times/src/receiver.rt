@@ -20,11 +20,12 @@ pub struct Receiver {
 }
 
 impl Receiver {
-    pub fn new(alloc: Global) -> Option<Receiver> {
+    /// One that begins lanes at so many packets.
+    pub fn new(alloc: Global, lanes: usize) -> Option<Receiver> {
         let window = BlockWindow::new(alloc, 2).ok()?;
-        Some(Receiver {
-            inbound: Inbound::new(SPI, &KEY, true, window),
-        })
+        let mut inbound = Inbound::new(SPI, &KEY, true, window);
+        inbound.begin_lanes_at(lanes);
+        Some(Receiver { inbound })
     }
 
     /// The number of a packet that is opened; `None` where it is refused.
