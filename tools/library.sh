@@ -19,14 +19,23 @@ wanted='malloc|mem(cpy|move|set|cmp)|bcmp|rattle_\w+|sukperin_wiped_\w+' # the c
 
 mkdir -p "$prefix/include" "$prefix/lib/pkgconfig" "$prefix/$fast" "$built"
 prefix=$(cd "$prefix" && pwd)
+lanes=$top/crates/sukperin/src/lanes.rt
+default_lanes=6 # as the tree has it
+
+# Has lists begin lanes at so many packets in what is built from now on.
+lists_from() {
+    sed -i "s/^\(pub const LANES_FROM: usize = \)[0-9]*;/\1$1;/" "$lanes"
+}
+
 work=$(mktemp -d)
-trap 'rm -rf "$work"' EXIT
+trap 'lists_from "$default_lanes"; rm -rf "$work"' EXIT
 printf '{ global: suk_*; local: *; };\n' >"$work/exports"
 
-# Proves and builds the archive of a target; the other words are rattle's flags.
+# Proves and builds the archive of a target, in which lists begin lanes at so many packets; the other words are rattle's flags.
 build() {
     target=$1
-    shift
+    lists_from "$2"
+    shift 2
     (cd "$top/crates/sukperin" && "$rt" lib "$@" >"$work/log" 2>&1) || { cat "$work/log" >&2; return 1; }
     cp "$top/crates/sukperin/out/libsukperin.a" "$built/$target.a"
 }
@@ -63,8 +72,8 @@ kit=$(dirname "$("$rt" doc)")
 install -m 644 "$top/bindings/c/sukperin.h" "$prefix/include/sukperin.h"
 sed "s|@PREFIX@|$prefix|; s|@VERSION@|$version|" "$top/bindings/c/sukperin.pc.in" >"$work/sukperin.pc"
 install -m 644 "$work/sukperin.pc" "$prefix/lib/pkgconfig/sukperin.pc"
-test "$step" = --lay || build x86-64-v3 --cpu=x86-64-v3
+test "$step" = --lay || build x86-64-v3 2 --cpu=x86-64-v3
 lay x86-64-v3 "$fast"
-test "$step" = --lay || build default
+test "$step" = --lay || build default "$default_lanes"
 lay default lib
 echo "libsukperin $version is in $prefix"
