@@ -1,7 +1,7 @@
 //! Vectors from outside, and messages in lanes against the same messages alone.
 ghost use Rattle.std.specs.Prelude.{◌≤◌};
 
-use lanes::{LaneKey, Task, icv_all};
+use lanes::{LaneKey, MESSAGES_LEAST, Task, icv_all};
 use mac::icv;
 use std::process::Abort;
 
@@ -53,7 +53,7 @@ fn rfc_4231(rt: HostRuntime) {
         case_1, case_2, case_3, case_4, case_5, case_1, case_2, case_3, case_4, case_5,
     ];
     let mut values = [[0; 16]; 10];
-    icv_all(&tasks, &mut values);
+    icv_all(&tasks, &mut values, MESSAGES_LEAST);
     let wanted = [
         *b"\xb0\x34\x4c\x61\xd8\xdb\x38\x53\x5c\xa8\xaf\xce\xaf\x0b\xf1\x2b",
         *b"\x5b\xdc\xc1\x46\xbf\x60\x75\x4e\x6a\x04\x24\x26\x08\x95\x75\xc7",
@@ -104,11 +104,14 @@ fn agree(rt: &impl Abort, lengths: &[usize], count: usize)
         };
     }
     let mut values = [[0; 16]; 100];
-    icv_all(&tasks[..count], &mut values[..count]);
+    icv_all(&tasks[..count], &mut values[..count], MESSAGES_LEAST);
+    let mut fast = [[0; 16]; 100];
+    icv_all(&tasks[..count], &mut fast[..count], 2);
     for k in 0..count {
         let key = if k % 3 == 0 { SECOND_KEY } else { FIRST_KEY };
         let alone = icv(&key, &[tasks[k].octets, tasks[k].more]);
         assert!(rt; values[k] == alone, "at {k} of {count}");
+        assert!(rt; fast[k] == alone, "at {k} of {count}, lanes from two on");
     }
 }
 
@@ -139,7 +142,7 @@ fn second_parts(rt: HostRuntime) {
             more: &octets[100..100 + more],
         }; 8];
         let mut values = [[0; 16]; 8];
-        icv_all(&tasks, &mut values);
+        icv_all(&tasks, &mut values, 2);
         let alone = icv(&FIRST_KEY, &[&octets[..63], &octets[100..100 + more]]);
         assert!(rt; tasks[0].icv() == alone, "at {more}");
         for value in &values {

@@ -3,7 +3,7 @@
 ghost use Rattle.std.specs.Prelude.{◌≡◌, ◌≤◌, IsTrue, ◌↔◌, All, length, take};
 ghost use Rattle.byteorder.specs.Endian.{big_bytes};
 
-use esp::{EspFault, Inbound, ListFault, ListStop, Opened, Outbound};
+use esp::{EspFault, Inbound, ListFault, ListStop, Opened, Outbound, PACKETS_LEAST};
 use replay::BlockWindow;
 use std::alloc::{AllocError, Global};
 use std::test::Fail;
@@ -32,11 +32,21 @@ impl Numbers {
     fn are_extended(self) -> bool {
         matches!(self, Numbers::Extended)
     }
+
+    // From how many packets on lists begin lanes: as a build for x86-64-v3 has it, or as one for v2.
+    fn lanes(self) -> usize {
+        match self {
+            Numbers::Extended => 2,
+            Numbers::Short => PACKETS_LEAST,
+        }
+    }
 }
 
 /// The sender that sealed its last packet with this number.
 pub fn sender(numbers: Numbers, last: u64) -> Outbound {
-    Outbound::new(SPI, &KEY, numbers.are_extended(), last)
+    let mut sender = Outbound::new(SPI, &KEY, numbers.are_extended(), last);
+    sender.begin_lanes_at(numbers.lanes());
+    sender
 }
 
 /// Octets that payloads are parts of.
@@ -152,9 +162,9 @@ pub struct Receiver {
 impl Receiver {
     pub fn new(alloc: Global, numbers: Numbers) -> Result<Receiver, Fail> {
         let window = BlockWindow::new(alloc, 2)?;
-        Ok(Receiver {
-            inbound: Inbound::new(SPI, &KEY, numbers.are_extended(), window),
-        })
+        let mut inbound = Inbound::new(SPI, &KEY, numbers.are_extended(), window);
+        inbound.begin_lanes_at(numbers.lanes());
+        Ok(Receiver { inbound })
     }
 
     /// What is answered of one packet; `None` of one that the receiver may not be handed.
