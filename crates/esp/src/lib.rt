@@ -7,8 +7,9 @@
 //!
 //! Lists are sealed by [`Outbound::seal_all`] and opened by [`Inbound::open_all`], with the outcome of as
 //! many calls for one packet in order. Only their ICVs are computed side by side, by crate `lanes`, for at
-//! most 64 packets at a time; those of fewer than six packets, or of up to sixteen that are too unequal in
-//! length to gain by it, one by one. Packets are laid out, judged and taken one after the other.
+//! most 64 packets at a time. Those of fewer than six packets are computed one by one, or of fewer than
+//! [`Outbound::begin_lanes_at`] says; so are those of up to sixteen that are too unequal in length to gain by
+//! it. Packets are laid out, judged and taken one after the other.
 //!
 //! ```text
 //! let mut sender = Outbound::new(256, &key, false, 6);
