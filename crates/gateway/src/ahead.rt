@@ -26,7 +26,6 @@ impl Ahead {
     }
 
     /// The ICV that was computed ahead for the input at a place, if there is one.
-    #[tactic(auto, using(Rattle.std.proofs.lemmas.Option.unwrap_or-slice_get))]
     pub fn at(&self, place: usize) -> Option<Precomputed>
         ensures { result ≡ get_or self.now.values place None }
     {
