@@ -1,4 +1,5 @@
 pub mod Faults
+pub mod Once
 pub mod Outputs
 pub mod Datagrams
 pub mod States

@@ -21,7 +21,7 @@ impl Ahead {
         ensures { ArePrecomputed (packets_in (map input_view inputs.now)) result.values }
     {
         Ahead {
-            values: values_ahead(table, inputs, least),
+            values: precompute(&questions_of(table, inputs), least),
         }
     }
 
@@ -29,21 +29,8 @@ impl Ahead {
     pub fn at(&self, place: usize) -> Option<Precomputed>
         ensures { result ≡ get_or self.now.values place None }
     {
-        self.values.get(place).copied().unwrap_or(None)
+        value_at(&self.values, place)
     }
-}
-
-/// The ICVs of the ESP packets among these inputs, each at its input's place. Computed only where that is
-/// faster side by side: from `least` packets of one length on.
-pub fn values_ahead(
-    table: &Table,
-    inputs: &[Input<'_>],
-    least: usize,
-) -> [Option<Precomputed>; GROUP]
-    requires { length inputs.now ≤ GROUP }
-    ensures { ArePrecomputed (packets_in (map input_view inputs.now)) result }
-{
-    precompute(&questions_of(table, inputs), least)
 }
 
 // What the ICVs are computed from, by the table as it is at the group's beginning.
@@ -59,4 +46,14 @@ fn questions_of<'a>(table: &'a Table, inputs: &[Input<'a>]) -> [Option<Question<
         }
     }
     questions
+}
+
+/// The ICV that was computed ahead for the packet at a place, if there is one.
+pub fn value_at(ahead: &[Option<Precomputed>], place: usize) -> Option<Precomputed>
+    ensures { result ≡ get_or ahead.now place None }
+{
+    match ahead.get(place) {
+        Some(found) => *found,
+        None => None,
+    }
 }

@@ -4,6 +4,7 @@ ghost use Rattle.esp.specs.Precomputed.{ArePrecomputed, AreQuestions, IsPrecompu
 ghost use Rattle.gateway.specs.Laying.{finished_output, finished_outputs, laid_at, octets_in};
 
 use crate::Output;
+use crate::ahead::value_at;
 use base::Items;
 use esp::{GROUP, Precomputed, Question, precompute};
 use sadb::Table;
@@ -51,8 +52,7 @@ fn finish_with(table: &Table, laid: &mut [Output<'_>], ahead: &[Option<Precomput
 {
     for place in 0..laid.len() {
         let output = mem::replace(&mut laid[place], Output::Discarded);
-        let value = ahead.get(place).copied().unwrap_or(None);
-        laid[place] = finished(table, output, value);
+        laid[place] = finished(table, output, value_at(ahead, place));
     }
 }
 

@@ -234,6 +234,7 @@
 
 mod ahead;
 mod fault;
+mod given;
 mod input;
 pub mod laws;
 mod laying;

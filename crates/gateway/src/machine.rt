@@ -11,12 +11,15 @@ ghost use Rattle.sadb.specs.Laying.{KeepsSenders};
 ghost use Rattle.gateway.specs.Groups.{packet_in, packets_in};
 ghost use Rattle.gateway.specs.Inputs.{Outward, input_view};
 ghost use Rattle.gateway.specs.Laying.{finished_output, finished_outputs};
+ghost use Rattle.gateway.specs.Once.{HasOneResult};
 ghost use Rattle.gateway.specs.Outputs.{output_view};
 ghost use Rattle.gateway.specs.States.{new_gateway};
 ghost use Rattle.gateway.specs.Steps.{Steps, Traces};
 ghost use Rattle.effects.specs.Taking.{meaning_of};
 ghost use Rattle.moments.specs.Next.{NothingIsDueBefore, SomethingIsDue};
 
+use crate::given::tells_its_lengths;
+use crate::laws::steps_are_determined;
 use crate::laying::finish_all;
 use crate::stepping::{lay, take};
 use crate::{Ahead, Input, Output, Traced};
@@ -25,7 +28,7 @@ use esp::{GROUP, PACKETS_LEAST, Precomputed};
 use flows::FlowMemory;
 use flows::laws::answers_stay_right;
 use ike::Ike;
-use ike::laws::{no_spi_is_lost, what_is_due_comes_in_time};
+use ike::laws::{keys_stay_whole, no_spi_is_lost, what_is_due_comes_in_time};
 use policy::Policy;
 use sadb::Table;
 use setup::Config;
@@ -162,12 +165,20 @@ impl<C: Sealer + Agreement + Proof> Gateway<C> {
     /// that came takes none. A `Tick` at which nothing is due is never refused. What is done with outbound
     /// flows is remembered as far as there is memory.
     ///
-    /// A refused input changes nothing but the table's spare capacity.
+    /// A refused input changes nothing but the table's spare capacity. Given once more, or to another gateway
+    /// that holds the same, an input has the same output and leaves the same, unless memory runs out.
     pub fn step<'a>(&mut self, alloc: Global, input: &Input<'a>) -> Output<'a>
-        ensures { Steps
+        ensures stepped { Steps
+            (meaning_of C.Sealer C.Agreement C.Proof self.old.caller)
+            (input_view input.now) self.old (output_view result) self.new }
+        ensures determined { HasOneResult
             (meaning_of C.Sealer C.Agreement C.Proof self.old.caller)
             (input_view input.now) self.old (output_view result) self.new }
     {
+        steps_are_determined::<C>();
+        keys_stay_whole();
+        self.invariants_hold();
+        tells_its_lengths(&self.caller, input);
         self.traced_step(alloc, input).output
     }
 

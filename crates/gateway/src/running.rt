@@ -1,14 +1,13 @@
 //! A list of inputs.
 ghost use Rattle.std.specs.Prelude.{◌≡◌, ◌+◌, ◌≤◌, OnOk, IfErr, IfSome, IsOk, length, map, vec_len};
 ghost use Rattle.std.specs.Vec.{vec_capacity};
-ghost use Rattle.esp.specs.Precomputed.{ArePrecomputed, IsPrecomputed};
-ghost use Rattle.gateway.specs.Groups.{TakesFirst, packet_in, packets_in};
+ghost use Rattle.esp.specs.Precomputed.{IsPrecomputed};
+ghost use Rattle.gateway.specs.Groups.{TakesFirst, packet_in};
 ghost use Rattle.gateway.specs.Inputs.{input_view};
 ghost use Rattle.gateway.specs.Laying.{TakesNext, finished_from};
 ghost use Rattle.gateway.specs.Runs.{RunsFirst, Stops};
 ghost use Rattle.effects.specs.Taking.{meaning_of};
 
-use crate::ahead::values_ahead;
 use crate::laws::every_run_keeps_its_promises;
 use crate::{Gateway, Input, Output, RunFault};
 use esp::{GROUP, Precomputed};
@@ -70,8 +69,11 @@ pub fn run<'a, C: Sealer + Agreement + Proof>(
     Ok(())
 }
 
-// Takes a group of inputs in order, and returns how many it took. Most lists have few inputs and need none
-// of the arrays for ICVs.
+// Takes a group of inputs in order, and returns how many it took. Reserves the place of an output before its
+// input. Most lists have few inputs and need no ICVs ahead.
+//
+// The ESP packets that were laid for the outputs from `start` on get their ICVs together: before an input of
+// another kind is taken, and where the list ends or has to stop.
 fn run_group<'a, C: Sealer + Agreement + Proof>(
     alloc: Global,
     gateway: &mut Gateway<C>,
@@ -87,45 +89,26 @@ fn run_group<'a, C: Sealer + Agreement + Proof>(
     ensures capacity { vec_capacity outputs.old ≤ vec_capacity outputs.new }
     ensures size { vec_len outputs.new ≡ vec_len outputs.old + result }
 {
-    if inputs.len() < gateway.lanes() {
-        return run_with(alloc, gateway, inputs, &[], outputs);
-    }
-    let ahead = values_ahead(gateway.table(), inputs, gateway.lanes());
-    run_with(alloc, gateway, inputs, &ahead, outputs)
-}
-
-// Takes inputs in order, with the ICVs that were computed ahead. Reserves the place of an output before its
-// input. Returns how many it took.
-//
-// The ESP packets that were laid for the outputs from `start` on get their ICVs together: before an input of
-// another kind is taken, and where the list ends or has to stop.
-fn run_with<'a, C: Sealer + Agreement + Proof>(
-    alloc: Global,
-    gateway: &mut Gateway<C>,
-    inputs: &[Input<'a>],
-    ahead: &[Option<Precomputed>],
-    outputs: &mut Vec<Output<'a>>,
-) -> usize
-    requires few { length inputs.now ≤ GROUP }
-    requires ahead { ArePrecomputed (packets_in (map input_view inputs.now)) ahead.now }
-    ensures first { TakesFirst
-        (meaning_of C.Sealer C.Agreement C.Proof)
-        result (map input_view inputs.now) gateway.old outputs.old.items gateway.new outputs.new.items }
-    ensures room { vec_len outputs.old + length inputs.now ≤ vec_capacity outputs.old
-        → result ≡ length inputs.now }
-    ensures capacity { vec_capacity outputs.old ≤ vec_capacity outputs.new }
-    ensures size { vec_len outputs.new ≡ vec_len outputs.old + result }
-{
+    let ahead = if inputs.len() < gateway.lanes() {
+        None
+    } else {
+        Some(gateway.ahead(inputs))
+    };
     let mut start = outputs.len();
     for (done, input) in inputs.iter().enumerate() {
         if outputs.reserve(1).is_err() {
             gateway.finish(&mut outputs[start..]);
             return done;
         }
-        let value = ahead.get(done).copied().unwrap_or(None);
+        let value = match &ahead {
+            Some(ahead) => ahead.at(done),
+            None => None,
+        };
         start = take_next(alloc, gateway, input, value, outputs, start);
     }
-    gateway.finish(&mut outputs[start..]);
+    if start < outputs.len() {
+        gateway.finish(&mut outputs[start..]);
+    }
     inputs.len()
 }
 
@@ -160,7 +143,9 @@ fn take_next<'a, C: Sealer + Agreement + Proof>(
         outputs.push_reserved(laid);
         return start;
     }
-    gateway.finish(&mut outputs[start..]);
+    if start < outputs.len() {
+        gateway.finish(&mut outputs[start..]);
+    }
     let output = gateway.traced_step_ahead(alloc, input, ahead).output;
     outputs.push_reserved(output);
     outputs.len()

@@ -118,9 +118,7 @@ pub(crate) fn take<'a, C: Sealer + Agreement + Proof>(
                 caller,
             )
         }
-        Input::Esp { octets } => {
-            Traced::plain(Output::of_arrival(receive_ahead(table, octets, ahead)))
-        }
+        Input::Esp { octets } => Traced::of_arrival(receive_ahead(table, octets, ahead)),
         Input::Outward { packet } => {
             Traced::plain(send_packet(alloc, table, flows, policy, packet))
         }
@@ -152,9 +150,20 @@ fn step_ike<'a, C: Sealer + Agreement + Proof>(
     ensures right { AllRight policy.now table.new.pairs flows.new }
 {
     answers_stay_right();
-    let traced = step_machine(alloc, input, ike, table, policy, caller);
-    forget_with(flows, traced.trace.child);
-    traced
+    what_is_due_comes_in_time();
+    no_spi_is_lost();
+    traces_name_what_is_held();
+    table.invariants_hold();
+    match ike.step(alloc, input, table, policy, caller) {
+        Ok(stepped) => {
+            let traced = Traced::by_ike(stepped);
+            forget_with(flows, traced.trace.child);
+            traced
+        }
+        Err(fault) => Traced::plain(Output::Refused {
+            reason: Reason::Ike(fault),
+        }),
+    }
 }
 
 // Forgets what is done with flows where a Child SA was made, since its pair may carry them from now on.
@@ -163,38 +172,6 @@ fn forget_with(flows: &mut FlowMemory, child: Option<MadeChild>)
 {
     if child.is_some() {
         flows.forget();
-    }
-}
-
-fn step_machine<'a, C: Sealer + Agreement + Proof>(
-    alloc: Global,
-    input: &IkeInput<'_>,
-    ike: &mut Ike,
-    table: &mut Table,
-    policy: &Policy,
-    caller: &C,
-) -> Traced<'a>
-    requires sound { IsSoundMachine ike.old table.old }
-    requires timely { IsTimely ike.old }
-    requires reservations { AreReservationsHeld ike.old.held table.old }
-    ensures stepped { StepsIke
-        (meaning_of C.Sealer C.Agreement C.Proof caller.now)
-        policy.now (ike_steps.input_view input.now) ike.old table.old
-        (output_view result.output) result.trace ike.new table.new }
-    ensures sound { IsSoundMachine ike.new table.new }
-    ensures timely { IsTimely ike.new }
-    ensures reservations { AreReservationsHeld ike.new.held table.new }
-    ensures pairs { result.trace.child ≡ None → NoneComes table.old.pairs table.new.pairs }
-{
-    what_is_due_comes_in_time();
-    no_spi_is_lost();
-    traces_name_what_is_held();
-    table.invariants_hold();
-    match ike.step(alloc, input, table, policy, caller) {
-        Ok(stepped) => Traced::by_ike(stepped),
-        Err(fault) => Traced::plain(Output::Refused {
-            reason: Reason::Ike(fault),
-        }),
     }
 }
 

@@ -1,7 +1,4 @@
-use Rattle.std.proofs.Common.{rules, ◌≡◌, ◌<◌, length, get_or, sym, ap, ◌∙◌, arith, Option, None}
-use Rattle.std.specs.Option.{unwrap_or}
-use Rattle.std.proofs.lemmas.Option.{unwrap_or-slice_get}
-use Rattle.esp.specs.declared.precomputed.Precomputed.{Precomputed}
+use Rattle.std.proofs.Common.{rules, ◌≡◌, ◌<◌, length, get_or, sym, ap, ◌∙◌, arith}
 use Rattle.std.proofs.lemmas.List.{length-set}
 use Rattle.std.proofs.Math.ListN.{set}
 use Rattle.gateway.specs.Laying.{finished_output}
@@ -18,8 +15,7 @@ finished-requires c =
     let h : k < length laid = search rules in
     let within : k < length before = omega (arith, h, i.long) in
     let here : get_or before k d ≡ c.replace-output.result = sym (first_left laid before k d i.rest h within) ∙ sym c.replace-output.ensures.value in
-    let there = c.unwrap_or-value.ensures ∙ ap (λ (o : Option (Option Precomputed)). unwrap_or o None) (c.copied.ensures ∙ c.get.ensures) ∙ unwrap_or-slice_get c.args.ahead.now k None in
-    value_laid before c.args.ahead.now k d c.replace-output.result c.unwrap_or-value.result c.requires within here there
+    value_laid before c.args.ahead.now k d c.replace-output.result c.value_at.result c.requires within here c.value_at.ensures
 
 pub loop-place-preserved : goal.loop-place-preserved
 loop-place-preserved c =

@@ -3,7 +3,9 @@ use Rattle.effects.specs.Taking.{Meaning}
 use Rattle.gateway.specs.Inputs.{input_view}
 use Rattle.gateway.specs.States.{IsSoundState}
 use Rattle.gateway.specs.declared.output.Output.{Output}
-use Rattle.gateway.proofs.LayingLemmas.{finish_behind, takes_laid, takes_other}
+use Rattle.gateway.proofs.LayingLemmas.{finish_behind, nothing_laid, takes_laid, takes_other}
+use Rattle.gateway.specs.Laying.{finished_from}
+use Rattle.gateway.proofs.running.take_next.Goals.{then-start-len, else-start-len}
 use Rattle.gateway.proofs.running.take_next.Goals as goal
 
 pub returns-in-Outward-clause-next : goal.returns-in-Outward-clause-next
@@ -51,9 +53,15 @@ returns-clause-next g c =
       reservations = c.invariants_hold.ensures.reservations;
     } in
     let items = c.args.outputs.now.items in
-    let xs = c.deref_mut.result.now in
-    let len : c.args.outputs.now.len ≡ length items = sym c.deref_mut.ensures.len ∙ ap length c.deref_mut.ensures.value in
     let within : c.args.start ≤ length items = search rules in
-    let whole = finish_behind old.table.pairs c.args.start c.args.outputs.now.len items xs c.finish.new.laid c.deref_mut.ensures.value len within c.finish.ensures in
-    takes_other meaning_of (input_view c.args.input.now) old c.traced_step_ahead-output.new.self c.args.start c.len.result items _ c.push_reserved-2.new.self.items c.traced_step_ahead-output.result.output c.traced_step_ahead-output.result.trace
+    let whole : c.if-start-len.outputs.items ≡ finished_from c.args.start old.table.pairs items =
+    elim c.if-start-len.branch [
+      | then-start-len w ↦
+          let xs = w.deref_mut.result.now in
+          let len : c.args.outputs.now.len ≡ length items = sym w.deref_mut.ensures.len ∙ ap length w.deref_mut.ensures.value in
+          ap (λ o. o.items) w.outputs-is ∙ finish_behind old.table.pairs c.args.start c.args.outputs.now.len items xs w.finish.new.laid w.deref_mut.ensures.value len within w.finish.ensures
+      | else-start-len w ↦ ap (λ o. o.items) w.outputs-is ∙ sym (nothing_laid old.table.pairs items c.args.start (omega (arith, within)))
+    ]
+    in
+    takes_other meaning_of (input_view c.args.input.now) old c.traced_step_ahead-output.new.self c.args.start c.len-2.result items _ c.push_reserved-2.new.self.items c.traced_step_ahead-output.result.output c.traced_step_ahead-output.result.trace
     whole c.push_reserved-2.ensures.items (search rules) sound c.traced_step_ahead-output.ensures

@@ -5,7 +5,7 @@ use Rattle.gateway.specs.Inputs.{input_view}
 use Rattle.gateway.specs.Laying.{finished_from}
 use Rattle.gateway.specs.Runs.{Runs, StepsAs}
 use Rattle.gateway.specs.declared.output.Output.{Output}
-use Rattle.gateway.proofs.running.run_with.Given as goal
+use Rattle.gateway.proofs.running.run_group.Given as goal
 
 -- what came so far was taken, and its outputs appended, once they are finished
 abbrev pub invariant-loop-done : goal.invariant-loop-done

@@ -1,9 +1,10 @@
 use Rattle.std.proofs.Common.{rules, ◌≡◌, ◌≤◌, ◌-◌, ℕ, List, [], ◌∷◌, ◌++◌, length, take, drop, map, refl, sym, ap, ◌∙◌, subst, arith, Option, None}
-use Rattle.std.specs.Option.{unwrap_or}
-use Rattle.std.proofs.lemmas.Option.{unwrap_or-slice_get}
-use Rattle.esp.specs.declared.precomputed.Precomputed.{Precomputed}
+use Rattle.std.specs.Prelude.{IfSome}
+use Rattle.esp.specs.Precomputed.{ArePrecomputed}
 use Rattle.std.proofs.lemmas.List.{append-nil, length-map}
 use Rattle.effects.specs.Taking.{Meaning}
+use Rattle.gateway.specs.declared.ahead.Ahead.{Ahead}
+use Rattle.gateway.specs.Groups.{packets_in}
 use Rattle.gateway.specs.Inputs.{Input, input_view}
 use Rattle.gateway.specs.Laying.{finished_from}
 use Rattle.gateway.specs.Runs.{Runs, StepsAs}
@@ -11,7 +12,8 @@ use Rattle.gateway.specs.declared.output.Output.{Output}
 use Rattle.gateway.proofs.GroupLemmas.{value_for}
 use Rattle.gateway.proofs.LayingLemmas.{finish_behind, nothing_laid}
 use Rattle.gateway.proofs.RunLemmas.{next_in_image, pushed_after, run_more, take_next_image, within_image}
-use Rattle.gateway.proofs.running.run_with.Goals as goal
+use Rattle.gateway.proofs.running.run_group.Goals.{then-inputs-lanes, else-inputs-lanes, in-Some, in-None}
+use Rattle.gateway.proofs.running.run_group.Goals as goal
 
 pub loop-done-init : goal.loop-done-init
 loop-done-init g c = record {
@@ -26,10 +28,19 @@ loop-done-init g c = record {
 
 pub take_next-start-requires-clause-ahead : goal.take_next-start-requires-clause-ahead
 take_next-start-requires-clause-ahead g c =
-    let inputs = c.args.inputs.now in
-    let there = c.unwrap_or-value.ensures ∙ ap (λ (o : Option (Option Precomputed)). unwrap_or o None) (c.copied.ensures ∙ c.get.ensures) ∙ unwrap_or-slice_get c.args.ahead.now c.loop-done.done None in
-    value_for (map input_view inputs) c.args.ahead.now c.loop-done.done _ c.unwrap_or-value.result c.requires.ahead (within_image input_view inputs c.loop-done.done c.loop-done-test.true)
-    (next_in_image input_view inputs c.loop-done.done _ c.loop-done-test.true) there
+    let inputs = map input_view c.args.inputs.now in
+    let right : IfSome c.if-inputs-lanes.ahead (λ ahead. ArePrecomputed (packets_in inputs) ahead.values) =
+    elim c.if-inputs-lanes.branch [
+      | then-inputs-lanes w ↦ rw w.ahead-is (search rules)
+      | else-inputs-lanes w ↦ rw w.ahead-is w.ahead.ensures
+    ]
+    in
+    elim c.match-ahead.branch [
+      | in-Some w ↦ rw w.value-is
+          (value_for inputs w.in-Some.ahead.values c.loop-done.done _ w.at-value.result (subst (λ (o : Option Ahead). IfSome o (λ ahead. ArePrecomputed (packets_in inputs) ahead.values)) w.in-Some.is right)
+          (within_image input_view c.args.inputs.now c.loop-done.done c.loop-done-test.true) (next_in_image input_view c.args.inputs.now c.loop-done.done _ c.loop-done-test.true) w.at-value.ensures)
+      | in-None w ↦ rw w.value-is (search rules)
+    ]
 
 pub loop-done-preserved : goal.loop-done-preserved
 loop-done-preserved g c =
@@ -75,15 +86,15 @@ returns-then-is_err-clause-first g c =
       runs = i.runs;
     }
 
-pub returns-clause-first : goal.returns-clause-first
-returns-clause-first g c =
+pub returns-then-start-len-clause-first : goal.returns-then-start-len-clause-first
+returns-then-start-len-clause-first g c =
     let i = c.loop-done.invariant in
     let pairs = c.loop-done.gateway.table.pairs in
     let items = c.loop-done.outputs.items in
-    let xs = c.deref_mut-2.result.now in
-    let len : c.loop-done.outputs.len ≡ length items = sym c.deref_mut-2.ensures.len ∙ ap length c.deref_mut-2.ensures.value in
+    let xs = c.deref_mut-then-start-len.result.now in
+    let len : c.loop-done.outputs.len ≡ length items = sym c.deref_mut-then-start-len.ensures.len ∙ ap length c.deref_mut-then-start-len.ensures.value in
     let within : c.loop-done.start ≤ length items = search rules in
-    let whole = finish_behind pairs c.loop-done.start c.loop-done.outputs.len items xs c.finish-2.new.laid c.deref_mut-2.ensures.value len within c.finish-2.ensures in
+    let whole = finish_behind pairs c.loop-done.start c.loop-done.outputs.len items xs c.finish-then-start-len.new.laid c.deref_mut-then-start-len.ensures.value len within c.finish-then-start-len.ensures in
     let h = c.loop-done-test.false in
     let e = c.loop-done.auto.done-end in
     let meaning_of : _ → Meaning = λ caller. record {
@@ -102,5 +113,30 @@ returns-clause-first g c =
       within = omega (arith, length-map c.args.inputs.now input_view);
       outputs = i.answers;
       appended = whole ∙ i.appended;
+      runs = subst (λ (k : ℕ). Runs (StepsAs meaning_of) (take k (map input_view c.args.inputs.now)) i.answers c.args.gateway.now c.loop-done.gateway) all i.runs;
+    }
+
+pub returns-else-start-len-clause-first : goal.returns-else-start-len-clause-first
+returns-else-start-len-clause-first g c =
+    let i = c.loop-done.invariant in
+    let nothing = nothing_laid c.loop-done.gateway.table.pairs c.loop-done.outputs.items c.loop-done.start (omega (arith, i.within, c.if-start-len.false, c.len.ensures)) in
+    let h = c.loop-done-test.false in
+    let e = c.loop-done.auto.done-end in
+    let meaning_of : _ → Meaning = λ caller. record {
+      cipher = g.C.Sealer.cipher;
+      body_of = g.C.Sealer.body_of;
+      plain_of = g.C.Sealer.plain_of;
+      group = g.C.Agreement.group_number;
+      public_value = g.C.Agreement.public_value;
+      shared_secret = g.C.Agreement.shared_secret;
+      own_method = g.C.Proof.own_method caller;
+      proof_of = g.C.Proof.proof_of caller;
+      accepts = g.C.Proof.accepts caller;
+    } in
+    let all : c.loop-done.done ≡ length c.args.inputs.now = omega arith in
+    record {
+      within = omega (arith, length-map c.args.inputs.now input_view);
+      outputs = i.answers;
+      appended = sym nothing ∙ i.appended;
       runs = subst (λ (k : ℕ). Runs (StepsAs meaning_of) (take k (map input_view c.args.inputs.now)) i.answers c.args.gateway.now c.loop-done.gateway) all i.runs;
     }
