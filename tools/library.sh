@@ -19,7 +19,7 @@ wanted='malloc|mem(cpy|move|set|cmp)|bcmp|rattle_\w+|sukperin_wiped_\w+' # the c
 
 mkdir -p "$prefix/include" "$prefix/lib/pkgconfig" "$prefix/$fast" "$built"
 prefix=$(cd "$prefix" && pwd)
-lanes=$top/crates/sukperin/src/lanes.rt
+lanes=$top/crates/sukperin/src/target.rt
 default_lanes=6 # as the tree has it
 
 # Has lists begin lanes at so many packets in what is built from now on.

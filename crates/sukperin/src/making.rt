@@ -5,8 +5,8 @@ ghost use Rattle.sukperin.specs.Terms.{IsMakingRefusal, IsSpellingRefusal, Makes
 use crate::end::End;
 use crate::handle::SukHandle;
 use crate::hosted::{Hosted, Left};
-use crate::lanes::LANES_FROM;
 use crate::refusal::Refusal;
+use crate::target::LANES_FROM;
 use crate::terms::{SukEntry, SukTerms, caller_of, config_of, is_start, policy_of};
 use gateway::Gateway;
 use std::alloc::Global;
