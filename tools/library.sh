@@ -72,8 +72,8 @@ kit=$(dirname "$("$rt" doc)")
 install -m 644 "$top/bindings/c/sukperin.h" "$prefix/include/sukperin.h"
 sed "s|@PREFIX@|$prefix|; s|@VERSION@|$version|" "$top/bindings/c/sukperin.pc.in" >"$work/sukperin.pc"
 install -m 644 "$work/sukperin.pc" "$prefix/lib/pkgconfig/sukperin.pc"
-test "$step" = --lay || build x86-64-v3 2 --cpu=x86-64-v3
-lay x86-64-v3 "$fast"
 test "$step" = --lay || build default "$default_lanes"
 lay default lib
+test "$step" = --lay || build x86-64-v3 2 --cpu=x86-64-v3
+lay x86-64-v3 "$fast"
 echo "libsukperin $version is in $prefix"
