@@ -1,0 +1,10 @@
+mod CrossingLemmas
+mod SealingLemmas
+mod DeliveringLemmas
+mod ChildLemmas
+mod TakenLemmas
+mod PlaceLemmas
+mod OrderLemmas
+mod WorkedLemmas
+mod StreamLemmas
+mod WorkedStreamLemmas

@@ -1,0 +1,7 @@
+use Rattle.laws_progress.proofs.WorkedStreamLemmas.{worked_stream}
+use Rattle.laws_progress.proofs.laws.the_premises_of_streams_are_met.Goals as goal
+
+pub returns : goal.returns
+returns g c = λ a b.
+    worked_stream a b (c.the_premises_are_met_from_new_gateways_on.ensures a b) c.every_run_keeps_its_promises.ensures c.each_end_has_its_events.ensures.history
+    c.every_world_stays_sound.ensures.by_then
