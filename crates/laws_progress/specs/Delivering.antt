@@ -37,9 +37,9 @@ pub record IsSealedBy {C : Type 0} (pair : Pair) (child number : ℕ) (packet oc
   pub said : h.said ≡ Sealed child number octets
   pub stood : pair_at (gateway_at h.event.end h.before).table.pairs child ≡ Some pair
 
--- At some step of the list this packet was sealed so, by a pair that this one mirrors: what that one
--- sends, this one receives, under the same SPI and key, and what is local to one is remote to the other
--- (RFC 4301 section 4.1).
+-- At some step of the list this packet was sealed so, by a pair that this one mirrors: what either sends,
+-- the other receives, under the same SPI and key and with numbers of one length, and what is local to one
+-- is remote to the other (RFC 4301 section 4.1).
 pub record WasSealedFor {C : Type 0} (mirror : Pair) (number : ℕ) (packet octets : Octets) (happenings : List (Happening C)) : Type 0 where
   pub place : ℕ
   pub happening : Happening C
@@ -49,16 +49,16 @@ pub record WasSealedFor {C : Type 0} (mirror : Pair) (number : ℕ) (packet octe
   pub sealed : IsSealedBy pair child number packet octets happening
   pub mirrors : Mirrors pair mirror
 
--- At this step these octets came as an ESP packet to an end that held this SA pair, Live or Deleting (RFC
--- 4301 section 5.2; RFC 4303 section 3.4).
+-- At this step these octets, whatever SPI they begin with, came as an ESP packet to an end that held this
+-- SA pair, Live or Deleting (RFC 4301 section 5.2; RFC 4303 section 3.4).
 pub record ComesTo {C : Type 0} (pair : Pair) (octets : Octets) (h : Happening C) : Type 0 where
   pub given : h.event.input ≡ input.Esp octets
   pub held : pair_at (gateway_at h.event.end h.before).table.pairs pair.serial ≡ Some pair
 
--- A sequence number may be accepted by a window: it was not taken, it doesn't lie below the window, and
--- with ESN it is less than 2^32 above the window's lower edge, so that it is rightly recovered from its
--- low half (RFC 4303 sections 2.2.1 and 3.4.3 and appendix A2). Bounds are stated by sums, since that edge
--- may lie below 0.
+-- A sequence number that was sealed, so not 0 and within the limit, may be accepted by a window: it was not
+-- taken, it doesn't lie below the window, and with ESN it is less than 2^32 above the window's lower edge, so
+-- that it is rightly recovered from its low half (RFC 4303 sections 2.2.1 and 3.4.3 and appendix A2). Bounds
+-- are stated by sums, since that edge may lie below 0.
 pub record MayBeAccepted (extended : Bool) (w : Seen) (number : ℕ) : Type 0 where
   pub new : set.contains w.taken number ≡ false
   pub in_reach : w.top < number + w.size

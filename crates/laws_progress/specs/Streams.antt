@@ -10,8 +10,8 @@ use Rattle.gateway.specs.declared.world.stored.Child.{Child}
 use Rattle.laws_progress.specs.Delivering.{ComesToChild, IsSealedFrom}
 use Rattle.laws_progress.specs.InOrder.{WasGreatestAtFirst}
 
--- At this place octets come to one end of a Child SA, into which the pair of the other end sealed this
--- packet as this number, at some step of the list.
+-- At this place octets come to one end of a Child SA, which holds its pair then. The pair of the other end
+-- sealed this packet into them, as this number, at some step of the list.
 pub record ArrivesAs {C : Type 0} (sender receiver : Child) (happenings : List (Happening C)) (place number : ℕ) (packet : Octets) : Type 0 where
   pub happening : Happening C
   pub here : slice_get happenings place ≡ Some happening
@@ -54,8 +54,8 @@ pub record ArrivesSo {C : Type 0} (sender receiver : Child) (happenings : List (
   pub arrives : ArrivesAs sender receiver happenings place number packet
 
 -- The assumption that nothing else is accepted: each packet that the receiving end accepts of the Child SA
--- was sealed so, as the number as which it is accepted. None was forged, and none that comes was sealed
--- before the list.
+-- was sealed so, as the number as which it is accepted. None that is accepted was forged, and none was
+-- sealed before the list.
 abbrev pub AcceptsNothingElse : {C : Type 0} → Child → Child → List (Happening C) → Type 0
 AcceptsNothingElse {C} sender receiver happenings =
     (place number : ℕ) (octets : Octets) (h : Happening C) → slice_get happenings place ≡ Some h → h.event.end ≡ receiver.end

@@ -73,7 +73,7 @@ abbrev pub gateway_with : {C : Type 0} → Config → C → Database → State C
 gateway_with {C} config caller table = record (new_gateway config all_protected table.start caller) { table = table }
 
 module _ {C : Type 0} (config : Config) (caller : C) (extended : Bool) (last : ℕ) where
-  -- both ends hold the pair, by which each has sealed and taken up to this number
+  -- both ends hold the pair, by which each has sealed up to this number and taken this one
   abbrev pub pair_before : Pair
   pair_before = pair_with extended last (one_taken last)
 

@@ -33,10 +33,11 @@ use sadb::laws::answers_are_determined;
 use suite::{Agreement, Proof, Sealer};
 use traffic::laws::what_one_end_seals_the_other_hands_up;
 
-/// What is to be protected is sealed, unless memory runs out. Where a packet is given to go out that the
-/// policy protects, and the newest Live pair whose selectors hold its flow has a sequence number left, the
-/// output is the packet, sealed by that pair as its next number, or the refusal for memory (RFC 4301, section
-/// 5.1; RFC 4303, section 3.3). Nothing says that memory was really short.
+/// What is to be protected is sealed, unless memory runs out. Where a packet is given to go out that
+/// the policy protects, and the newest Live pair whose selectors hold its flow has a sequence number
+/// left, the output is of that pair: octets sealed as its next number, or the refusal for memory (RFC
+/// 4301, section 5.1; RFC 4303, section 3.3). That these octets carry the packet is said by the step
+/// itself. Nothing says that memory was really short.
 pub fn what_is_to_be_protected_is_sealed<C>()
     ensures { (meaning_of : C → Meaning) (old new : WorldState C) (happenings : List (Happening C))
         → IsWorldTrail meaning_of old happenings new
@@ -49,8 +50,8 @@ pub fn what_is_to_be_protected_is_sealed<C>()
     answers_are_determined();
 }
 
-/// What is sealed and delivered goes up: whole, unchanged, and under its number. This is of every history of
-/// a world of two gateways (as `gateway::run_world` tells it), whatever else happens in it.
+/// What is sealed and delivered by the network goes up: whole, unchanged, and under its number. This is of
+/// every history of a world of two gateways (as `gateway::run_world` tells it), whatever else happens in it.
 ///
 /// A packet was given to go out at one step, and an SA pair sealed it there under a number. The octets of
 /// that output come as an ESP packet at another step, to an end that then holds the mirror of that pair (RFC
@@ -61,11 +62,15 @@ pub fn what_is_to_be_protected_is_sealed<C>()
 ///   edge (RFC 4303, section 3.4.3 and appendix A2).
 /// - `above`: so it is of each number above all that the window has taken, with ESN by no more than 2^32 less
 ///   the window's size. Fewer than that many may have been lost before it; without ESN, any number.
-/// - `in_time`: the same in terms of the history alone. It goes up if and only if its number was not accepted
-///   before, neither in the list nor before it, no number was that lies a whole window above it, and with ESN
-///   it follows closely on one that was. So packets may be reordered within the window.
-/// - `in_order`: it goes up if all that was accepted before had lower numbers, and with ESN it follows
-///   closely on one of these.
+/// - `in_time`: the same in terms of the history alone, a matter of numbers and not of the clock. It
+///   goes up if and only if its number was not accepted by that pair before, neither in the list nor
+///   before the list, none was that lies a whole window above it or more, and with ESN it lies
+///   *closely*: at most 2^32 less the window's size above one that was accepted, or above 0. So packets
+///   may be reordered within the window.
+/// - `in_order`: it goes up if all that was accepted before had lower numbers, and with ESN it lies closely
+///   above one of these, or above 0.
+///
+/// *Accepted* means that the number was taken, also where the packet was then dropped for its content.
 ///
 /// Nothing is assumed of the network, of peers or of cryptography. No forgery is excluded: a packet that was
 /// forged and accepted may take the number of one that was sealed, or move the window past it, and is then
@@ -115,9 +120,10 @@ pub fn what_is_sealed_and_delivered_goes_up<C>()
     each_end_has_its_events::<C>();
 }
 
-/// What goes in at one end comes out at the other: both laws above in one. A packet that is to be protected
-/// is refused because memory ran out; or it is sealed, and wherever its octets come to a pair that mirrors
-/// the one which sealed it, it goes up, exactly if it comes in time.
+/// What goes in at one end comes out at the other: both laws above in one. A packet that is to go by a
+/// pair with a number left is refused because memory ran out; or it is sealed, and wherever its octets
+/// come to a pair that mirrors the one which sealed it, it goes up, exactly if it comes in time.
+/// Nothing says that memory was really short.
 pub fn what_goes_in_comes_out<C>()
     ensures { (meaning_of : C → Meaning) (old new : WorldState C) (happenings : List (Happening C))
         → IsWorldTrail meaning_of old happenings new
@@ -184,14 +190,16 @@ pub fn what_one_end_of_a_child_seals_goes_up_at_the_other<C: Sealer + Agreement 
     what_is_sealed_and_delivered_goes_up::<C>();
 }
 
-/// A stream that comes in order goes up whole. As above, both ends made a Child SA by one request under a
-/// record of keys. Of what the pair of one end seals in the list the network delivers to the other end, while
-/// that holds its pair, whatever it delivers in the order in which it was sealed, and each once. It may lose
-/// any of it; with ESN fewer than 2^32 numbers, less the window's size, in a row. Then each packet that
-/// arrives goes up, unchanged and under its number.
+/// Each packet of a stream that comes in order goes up. As above, both ends made a Child SA by one
+/// request under a record of keys. Of what the pair of one end seals in the list the network delivers
+/// to the other end, while that holds its pair, whatever it delivers in the order in which it was
+/// sealed, and each once. It may lose any of it; with ESN at most 2^32 less the window's size in a row,
+/// counted from the last number that was accepted. Then each packet that arrives goes up, unchanged and
+/// under its number.
 ///
-/// It assumes that nothing else is accepted of the child at that end: that none of its packets was forged,
-/// and that none comes which was sealed before the list. What is dropped may be anything.
+/// It assumes that nothing else is accepted of the child at that end: no forged packet, and none that
+/// was sealed before the list. Whatever else comes may be anything, if it is dropped before it is
+/// accepted; but no packet of the stream comes twice or late, not even to be dropped.
 pub fn a_stream_in_order_goes_up_whole<C: Sealer + Agreement + Proof>()
     ensures { (keys : KeyRecord) (old new : WorldState C) (happenings : List (Happening C))
         → IsWorldTrail (meaning_of C.Sealer C.Agreement C.Proof) old happenings new
@@ -212,10 +220,10 @@ pub fn a_stream_in_order_goes_up_whole<C: Sealer + Agreement + Proof>()
     each_end_has_its_events::<C>();
 }
 
-/// Non-vacuity: the premises are met by two steps of a world, with ESN and without it, whatever number is the
-/// next. A packet goes out at one end, which seals it; its octets come to the other, which holds the mirrored
-/// pair and has accepted the number before, and go up there. Configuration, provider and its value may be
-/// any.
+/// Non-vacuity: the premises are met by two steps of a world, with ESN and without it, whatever number
+/// from 2 on is the next. A packet goes out at one end, which seals it; its octets come to the other,
+/// which holds the mirrored pair and has accepted the preceding number, and the packet goes up there.
+/// Configuration, provider and its value may be any.
 pub fn the_premises_of_progress_are_met<C>()
     ensures { (meaning_of : C → Meaning) (config : Config) (caller : C) (extended : Bool) (last : ℕ)
         → IsConfig config → 1 ≤ last → last + 1 < number_limit extended
@@ -224,9 +232,10 @@ pub fn the_premises_of_progress_are_met<C>()
     what_is_due_comes_in_time();
 }
 
-/// Non-vacuity: the premises on the two ends of a Child SA, and on a stream, are met by a run that begins
-/// with two new gateways ([`laws_two_ends`]): a packet goes out at the end that asked for the child, and is
-/// all that arrives at the other. What the callers mean is fixed there, and hides nothing.
+/// Non-vacuity: the premises on the two ends of a Child SA, and on a stream of one packet without ESN,
+/// are met by a run that begins with two new gateways ([`laws_two_ends`]): the packet goes out at the
+/// end that asked for the child, and is all that arrives at the other. What the callers mean is fixed
+/// there: it keeps the traits' laws, hides nothing and accepts every proof.
 pub fn the_premises_of_streams_are_met<C>()
     ensures { (a b : C) → IsStreamFromNewGateways a b }
 {
