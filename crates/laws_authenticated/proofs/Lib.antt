@@ -8,3 +8,6 @@ mod StrangerLemmas
 mod KeylessLemmas
 mod InsideLemmas
 mod InsideRunLemmas
+mod ClosingLemmas
+mod WorkedStrangerLemmas
+mod WorkedClosingLemmas

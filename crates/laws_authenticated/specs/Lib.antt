@@ -1,3 +1,6 @@
 pub mod Carrying
 pub mod Strangers
 pub mod Inside
+pub mod Closing
+pub mod WorkedStrangers
+pub mod WorkedClosings

@@ -3,6 +3,7 @@ ghost use Rattle.std.specs.Prelude.{◌≡◌, ℕ, List, Some, slice_get};
 ghost use Rattle.base.specs.Octets.{Octets};
 ghost use Rattle.suite.specs.declared.fresh.Fresh.{Fresh};
 ghost use Rattle.policy.specs.declared.entry.Entry.{Entry};
+ghost use Rattle.setup.specs.Configs.{IsConfig};
 ghost use Rattle.setup.specs.declared.config.Config.{Config};
 ghost use Rattle.effects.specs.Taking.{Meaning};
 ghost use Rattle.ike.specs.Receiving.{IsInitialRequest};
@@ -15,8 +16,11 @@ ghost use Rattle.gateway.specs.declared.world.stored.End.{End};
 ghost use Rattle.gateway.specs.States.{State, new_gateway};
 ghost use Rattle.gateway.specs.declared.output.Output.{Output};
 ghost use Rattle.laws_authenticated.specs.Carrying.{EachPairIsOfAnEstablished, KeepsSettings, OnlyTheKnownCarry, OnlyTheProvedCarry, SealsWhatIsProtected};
+ghost use Rattle.laws_authenticated.specs.Closing.{IsOverBy, NothingIsCarriedAfter};
 ghost use Rattle.laws_authenticated.specs.Inside.{LiesInside};
 ghost use Rattle.laws_authenticated.specs.Strangers.{AddsAtMostAHalfOpen, ChangesAtMostOneWaiting, CountsForOne, IsAsItWas, IsStrange};
+ghost use Rattle.laws_authenticated.specs.WorkedClosings.{IsClosedByItsPeer};
+ghost use Rattle.laws_authenticated.specs.WorkedStrangers.{IsMetByAStranger};
 
 use association::laws::receptions_say_why;
 use effects::laws::associations_stay_themselves;
@@ -26,6 +30,7 @@ use ike::laws::{
     traces_name_what_is_held, what_is_quiet_changes_nothing,
 };
 use moments::laws::{pairs_go_with_their_associations, some_are_held_on, what_is_held_was_held};
+use traffic::laws::later_tables_follow;
 use wire::laws::octets_spell_one_message;
 
 /// Each SA pair in the table belongs to an IKE SA that is held and established (RFC 4301, section 4.4.2):
@@ -109,6 +114,50 @@ pub fn at_each_end_only_the_authenticated_carry<C>()
     only_the_authenticated_carry::<C>();
 }
 
+/// Once an IKE SA is closed, or held no more, nothing is carried for it (RFC 4301, section 4.4.2; RFC 7296,
+/// sections 1.4.1 and 2.4). Over every list of inputs, take a step with which an IKE SA is so that was held
+/// before it, or before an earlier one. At each later step, whatever comes:
+///
+/// - it is so still: it isn't established again, and its serial isn't given again;
+/// - no SA pair in the table names it (`held`), nor does one after the list (`left`);
+/// - each ESP packet that is accepted, and each output that delivers or seals one or calls one a dummy, is of
+///   a Child SA whose pair stands and names another IKE SA (`accepted`, `said`);
+/// - no Child SA whose pair ever named it has a pair, a packet that is accepted, or such an output (`own`).
+///
+/// It asks that each pair is of an established IKE SA before the list (`closed`), as in a new gateway
+/// (`begun`), and after every list from one on. So it is at either end of a world, over its own steps
+/// (`at_each_end`). While a command to delete an IKE SA waits for its answer, that one isn't closed yet.
+pub fn a_closed_association_carries_nothing_more<C>()
+    ensures closed { (meaning_of : C → Meaning) (inputs : List Input) (outputs : List Output)
+        (old new : State C) (passages : List (Passage C)) (place serial : ℕ)
+        → IsHistory meaning_of inputs outputs old new passages
+        → EachPairIsOfAnEstablished old
+        → IsOverBy passages place serial
+        → NothingIsCarriedAfter passages place serial new }
+    ensures begun { (meaning_of : C → Meaning) (config : Config) (entries : List Entry) (start : ℕ)
+        (caller : C) (inputs : List Input) (outputs : List Output) (new : State C)
+        (passages : List (Passage C)) (place serial : ℕ)
+        → IsHistory meaning_of inputs outputs (new_gateway config entries start caller) new passages
+        → IsOverBy passages place serial
+        → NothingIsCarriedAfter passages place serial new }
+    ensures at_each_end { (meaning_of : C → Meaning) (end : End) (events : List Event) (outputs : List Output)
+        (old new : WorldState C) (happenings : List (Happening C)) (place serial : ℕ)
+        → IsWorldHistory meaning_of events outputs old new happenings
+        → EachPairIsOfAnEstablished (gateway_at end old)
+        → IsOverBy (passages_at end happenings) place serial
+        → NothingIsCarriedAfter (passages_at end happenings) place serial (gateway_at end new) }
+{
+    each_end_has_its_events::<C>();
+    steps_keep_their_laws();
+    children_are_made_of_their_messages();
+    requests_are_remembered();
+    traces_name_what_is_held();
+    what_is_held_was_held();
+    pairs_go_with_their_associations();
+    some_are_held_on();
+    later_tables_follow();
+}
+
 /// Each SA pair, and each Child SA that an IKE SA waits for, lies inside the policy (RFC 4301, section
 /// 4.4.1; RFC 7296, section 2.9): what is remote to this end lies inside the remote side of an entry that
 /// protects, and what is local inside the local side of the same one.
@@ -170,3 +219,25 @@ pub fn strangers_change_nothing<C>()
     associations_stay_themselves();
     octets_spell_one_message();
 }
+
+/// The premises of [`strangers_change_nothing`] are met by a gateway that holds keys. It holds an established
+/// IKE SA, and a datagram with its SPIs and the Message ID that is due asks to delete it, and isn't encrypted
+/// (RFC 7296, sections 1.4 and 1.4.1). It opens under no keys, and so it is strange: the gateway drops it and
+/// stays as it was. The peer's own request with the same SPIs and Message ID would count.
+///
+/// So it is whatever the configuration, the caller's value, the source address and the fresh octets. The
+/// caller's cipher hides nothing, and all laws of its traits hold.
+pub fn a_stranger_is_met_by_a_worked_gateway<C>()
+    ensures { (config : Config) (caller : C) (from : Octets) (fresh : Fresh) → IsConfig config
+        → IsMetByAStranger config caller from fresh }
+{
+    octets_spell_one_message();
+}
+
+/// The premises of [`a_closed_association_carries_nothing_more`] are met by the same gateway. The deletion
+/// comes in clear, which changes nothing. Then it comes encrypted, as the peer may send it: the IKE SA is
+/// closed, and the deletion answered (RFC 7296, section 1.4.1). The table has no SA pairs.
+pub fn an_association_is_closed_by_its_peer<C>()
+    ensures { (config : Config) (caller : C) (from : Octets) (fresh : Fresh) → IsConfig config
+        → IsClosedByItsPeer config caller from fresh }
+{}

@@ -5,16 +5,21 @@
 //! - [`laws::only_the_authenticated_carry`]: each ESP packet that a gateway accepts or seals is of a Child SA
 //!   that was made by an IKE SA whose peer proved itself, and under its keys; so it is
 //!   [at each end](laws::at_each_end_only_the_authenticated_carry) of a world.
+//! - [`laws::a_closed_association_carries_nothing_more`]: once an IKE SA is closed, or held no more, no ESP
+//!   packet is accepted or sealed for it, nor by a Child SA that was ever of it.
 //! - [`laws::children_lie_inside_the_policy`]: of each SA pair and of each Child SA that is waited for, the
 //!   selectors lie inside an entry that protects.
 //! - [`laws::strangers_change_nothing`]: what counts for no IKE SA, and is accepted by no SA pair, changes
 //!   nothing, but for IKE SAs that are just beginning.
+//! - [`laws::a_stranger_is_met_by_a_worked_gateway`], [`laws::an_association_is_closed_by_its_peer`]: a
+//!   worked gateway that holds an IKE SA stays as it was where a stranger asks to delete that, and closes it
+//!   where the peer does.
 //!
 //! Who is established over a list `gateway::run` says. Here the steps of [`ike`] are joined: of which IKE
 //! SA a Child SA is made, and whose peer proves itself. `proofs/EndingLemmas` goes through what a message
 //! does, to show that an IKE SA which it closes takes its pairs along; of a tick [`moments`] says so.
 //! `StepLemmas` says of one step where each pair comes from, `CarryingLemmas` follows that over a list, and
-//! `InsideLemmas` what is asked for.
+//! `InsideLemmas` what is asked for. `ClosingLemmas` follows an IKE SA that is closed or gone.
 #![tactic(auto)]
 
 pub mod laws;
