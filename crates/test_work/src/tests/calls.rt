@@ -135,12 +135,12 @@ fn a_tick_seals_nothing_anew(rt: HostRuntime) {
     let mut b = Side::new(&rt, rt.alloc(), End::B, &counts_b);
     begin(&rt, rt.alloc(), &mut a, &mut b);
     let (asked, _) = a.takes(&rt, rt.alloc(), &probe(1));
-    let mut times = 0;
+    let mut times: u32 = 0;
     for moment in [100, 500, 1_000, 2_000, 4_000] {
         let (octets, counted) = a.takes(&rt, rt.alloc(), &OwnedInput::Tick { moment });
         assert_eq!(rt; counted, NOTHING);
         if octets == asked {
-            times += 1;
+            times = times.saturating_add(1);
         } else {
             assert!(rt; octets.is_empty());
         }
@@ -161,8 +161,9 @@ fn packets_ask_for_nothing(rt: HostRuntime) {
     assert!(rt; !octets.is_empty());
     assert_eq!(rt; counted, NOTHING);
     let (mut asked, _) = a.takes(&rt, rt.alloc(), &probe(1));
-    let last = asked.len() - 1;
-    asked[last] ^= 1;
+    if let Some(last) = asked.last_mut() {
+        *last ^= 1;
+    }
     let (octets, counted) = b.takes_datagram(&rt, rt.alloc(), &asked, 30);
     assert!(rt; octets.is_empty());
     assert_eq!(rt; counted, ONE_OPENED);
