@@ -3,9 +3,12 @@ use Rattle.std.specs.Prelude.{◌≡◌, ℕ, Bool, true, false, Option, Some, N
 use Rattle.std.specs.FinMap as map
 use Rattle.wire.specs.Numbers.{CREATE_CHILD_SA, IKE_AUTH, IKE_SA_INIT, INFORMATIONAL}
 use Rattle.requests.specs.Outgoing.{OwnRequests}
+use Rattle.association.specs.AskedChildren.{asked_of}
 use Rattle.association.specs.declared.phase.Request.{Request}
 use Rattle.association.specs.declared.purpose.Purpose.{Purpose}
 use Rattle.association.specs.declared.purpose.Purpose.TheVariants.{Begin, Identify, CreateChild, Probe, DeleteChild, DeleteAssociation}
+use Rattle.association.specs.declared.purpose.Sought.{Sought}
+use Rattle.association.specs.declared.purpose.Sought.TheVariants as sought
 
 abbrev pub exchange_of : Purpose → ℕ
 exchange_of Begin = IKE_SA_INIT
@@ -41,6 +44,21 @@ spi_asked (CreateChild further) = Some further.child.spi
 spi_asked Probe = None
 spi_asked (DeleteChild child) = None
 spi_asked DeleteAssociation = None
+
+-- what its answer is read by
+abbrev pub sought_of : Purpose → Sought
+sought_of Begin = sought.Other
+sought_of Identify = sought.Identity
+sought_of (CreateChild further) = sought.Child (asked_of further.child) further.nonce
+sought_of Probe = sought.Other
+sought_of (DeleteChild child) = sought.Other
+sought_of DeleteAssociation = sought.Other
+
+-- the request with this Message ID waits for its answer, and this is what that is read by
+pub record SeeksAt (requests : OwnRequests Request) (number : ℕ) (seeks : Sought) : Type 0 where
+  pub request : Request
+  pub outstanding : map.get requests.outstanding number ≡ Some request
+  pub is : seeks ≡ sought_of request.purpose
 
 -- a request of this end to end the IKE SA waits for its answer
 pub record AwaitsDeletion (requests : OwnRequests Request) : Type 0 where

@@ -15,11 +15,12 @@ use Rattle.exchange.specs.declared.headers.Role.{Role}
 use Rattle.exchange.specs.declared.sealed.Plain.{Plain}
 use Rattle.requests.specs.Incoming.{IsFreshRequest, IsJudgement}
 use Rattle.requests.specs.Numbers.{HasNumber}
+use Rattle.requests.specs.Outgoing.{OwnRequests}
 use Rattle.requests.specs.declared.incoming.Judgement.{Judgement}
 use Rattle.requests.specs.declared.incoming.Judgement.TheVariants as judged
 use Rattle.association.specs.Finding.{is_waiting}
 use Rattle.association.specs.Phases.{keys_in}
-use Rattle.association.specs.Purposes.{exchange_of}
+use Rattle.association.specs.Purposes.{exchange_of, SeeksAt}
 use Rattle.association.specs.declared.fault.MessageFault.{MessageFault}
 use Rattle.association.specs.declared.fault.MessageFault.TheVariants.{NotOpened, Forgotten, OutsideWindow, WrongPhase}
 use Rattle.association.specs.declared.phase.Association.{Association}
@@ -41,8 +42,13 @@ abbrev pub received_view : Received → Reception
 received_view (received.Refused fault) = Refused fault
 received_view (received.Repeat reply) = Repeat reply
 received_view (received.Request plain) = TakesEffect plain
-received_view (received.Response plain) = Answers plain
+received_view (received.Response sought plain) = Answers plain
 received_view received.InitialResponse = AnswersInitial
+
+-- a response tells what its request asked for
+abbrev pub TellsSought : OwnRequests Request → ℕ → Received → Type 0
+TellsSought requests number (received.Response sought plain) = SeeksAt requests number sought
+TellsSought requests number r = Unit {0}
 
 -- what a cipher opens bodies to, by keys and head
 abbrev pub Opening : Type 0

@@ -44,5 +44,5 @@ pub use finding::find;
 pub use issuing::{issued, new_request};
 pub use outcome::{Answered, Ended, Fate, Issued, unless_made};
 pub use phase::{Association, AuthSent, HalfOpen, InitSent, Phase, Request};
-pub use purpose::{FurtherChild, Purpose};
+pub use purpose::{FurtherChild, Purpose, Sought};
 pub use receiving::{Received, receive};

@@ -1,8 +1,9 @@
 //! What an end's request asks for.
 ghost use Rattle.std.specs.Prelude.{◌≡◌};
-ghost use Rattle.association.specs.Purposes.{asks_for_child, asks_to_end, exchange_of, spi_asked};
+ghost use Rattle.association.specs.Purposes.{asks_for_child, asks_to_end, exchange_of, sought_of, spi_asked};
 
 use crate::AskedChild;
+use children::Asked;
 use sadb::Spi;
 use wire::numbers::{CREATE_CHILD_SA, IKE_AUTH, IKE_SA_INIT, INFORMATIONAL};
 
@@ -35,7 +36,41 @@ pub struct FurtherChild {
     pub nonce: [u8; 32],
 }
 
+/// What an answer is read by: what its request asked for. It is a copy, since the request stands until its
+/// answer is read.
+#[derive(Clone, Copy, Debug)]
+pub enum Sought {
+    /// To know this end, and the first Child SA, by IKE_AUTH (RFC 7296, section 1.2).
+    Identity,
+    /// An additional Child SA, by CREATE_CHILD_SA (section 1.3.1).
+    Child {
+        /// What was asked for.
+        asked: Asked,
+        /// The nonce of the request, for the Child SA's keys (section 2.17).
+        nonce: [u8; 32],
+    },
+    /// Anything else. Its answer is read without it.
+    Other,
+}
+
 impl Purpose {
+    /// What its answer is read by.
+    pub fn sought(&self) -> Sought
+        ensures { result ≡ sought_of self.now }
+    {
+        match self {
+            Purpose::Identify => Sought::Identity,
+            Purpose::CreateChild(further) => Sought::Child {
+                asked: further.child.asked(),
+                nonce: further.nonce,
+            },
+            Purpose::Begin => Sought::Other,
+            Purpose::Probe => Sought::Other,
+            Purpose::DeleteChild { .. } => Sought::Other,
+            Purpose::DeleteAssociation => Sought::Other,
+        }
+    }
+
     /// The exchange type of the request, which its answer has too (RFC 7296, section 3.1).
     pub fn exchange(&self) -> u8
         ensures { result ≡ exchange_of self.now }

@@ -3,9 +3,9 @@ ghost use Rattle.std.specs.Prelude.{◌≡◌, ◌≢◌, true, false, None, IfE
 ghost use Rattle.exchange.specs.Sealed.{lone_body};
 ghost use Rattle.wire.specs.Messages.{Spells};
 ghost use Rattle.association.specs.Phases.{keys_in};
-ghost use Rattle.association.specs.Receiving.{admits, fresh_reception, is_closed, opened_by, received_view, reception_of_response, IsReceived, IsReceivedRequest, IsUndecided, IsUndecidedRequest, is_undecided_response};
+ghost use Rattle.association.specs.Receiving.{admits, fresh_reception, is_closed, opened_by, received_view, reception_of_response, IsReceived, IsReceivedRequest, IsUndecided, IsUndecidedRequest, TellsSought, is_undecided_response};
 
-use crate::{Association, MessageFault, Phase};
+use crate::{Association, MessageFault, Phase, Sought};
 use base::Items;
 use exchange::{Plain, open_message};
 use requests::Judgement;
@@ -24,8 +24,13 @@ pub enum Received {
     Repeat(Items<u8>),
     /// A request that is to be processed, with its payloads.
     Request(Plain),
-    /// The response to the outstanding request with its Message ID, with its payloads.
-    Response(Plain),
+    /// The response to the outstanding request with its Message ID.
+    Response {
+        /// What that request asked for.
+        sought: Sought,
+        /// The payloads of the response.
+        plain: Plain,
+    },
     /// The response to IKE_SA_INIT, whose payloads are not encrypted.
     InitialResponse,
 }
@@ -56,6 +61,7 @@ pub fn receive<S: Sealer>(
     requires { Spells message.now octets.now }
     ensures received { IfOk result (λ received.
         IsReceived S.plain_of association.now octets.now message.now (received_view received)) }
+    ensures sought { IfOk result (TellsSought association.now.outgoing message.now.header.id) }
     ensures memory { IfErr result (λ _. IsUndecided association.now message.now) }
 {
     if message.header.flags.response {
@@ -75,6 +81,7 @@ fn receive_response<S: Sealer>(
     requires { Spells message.now octets.now }
     ensures received { IfOk result (λ received. received_view received
         ≡ reception_of_response S.plain_of association.now octets.now message.now) }
+    ensures sought { IfOk result (TellsSought association.now.outgoing message.now.header.id) }
     ensures memory { IfErr result (λ _. (is_undecided_response association.now message.now.header ≡ true)
         × (lone_body message.now.payloads ≢ None) × (keys_in association.now.phase ≢ None)) }
 {
@@ -91,7 +98,10 @@ fn receive_response<S: Sealer>(
         return Ok(Received::InitialResponse);
     }
     match opened(alloc, sealer, association, octets, message)? {
-        Some(plain) => Ok(Received::Response(plain)),
+        Some(plain) => Ok(Received::Response {
+            sought: request.purpose.sought(),
+            plain,
+        }),
         None => Ok(Received::Refused(MessageFault::NotOpened)),
     }
 }
@@ -106,6 +116,7 @@ fn receive_request<S: Sealer>(
     requires { Spells message.now octets.now }
     ensures received { IfOk result (λ received.
         IsReceivedRequest S.plain_of association.now octets.now message.now (received_view received)) }
+    ensures sought { IfOk result (TellsSought association.now.outgoing message.now.header.id) }
     ensures memory { IfErr result (λ _. IsUndecidedRequest association.now message.now.header
         × (lone_body message.now.payloads ≢ None) × (keys_in association.now.phase ≢ None)) }
 {
@@ -134,6 +145,7 @@ fn receive_fresh<S: Sealer>(
     ensures received { IfOk result (λ received. received_view received
         ≡ fresh_reception association.now.phase message.now.header.exchange
         (opened_by S.plain_of association.now octets.now message.now.payloads)) }
+    ensures sought { IfOk result (TellsSought association.now.outgoing message.now.header.id) }
     ensures memory { IfErr result (λ _. (is_closed association.now.phase ≡ false)
         × (lone_body message.now.payloads ≢ None) × (keys_in association.now.phase ≢ None)) }
 {

@@ -1,49 +1,51 @@
 -- What a matched response gives back.
-use Rattle.std.proofs.Common.{◌≡◌, ◌≢◌, ◌&&◌, ℕ, cond, not, Some, None, ap, subst, sym, inl, inr, ◌∙◌}
+use Rattle.std.proofs.Common.{◌≡◌, ◌≢◌, ◌&&◌, ℕ, cond, not, Some, None, ap, refl, subst, sym, inl, inr, ◌∙◌}
 use Rattle.std.proofs.lemmas.Bool.{eq-eqb, ne_eqb}
 use Rattle.std.proofs.lemmas.Option.{none-some}
 use Rattle.std.specs.Cmp.{nat_cmp_total, unsigned_tied}
 use Rattle.std.specs.FinMap as map
 use Rattle.std.specs.FinSet as set
 use Rattle.std.specs.Ordering.{nat_cmp}
-use Rattle.suite.specs.declared.key_record.KeyRecord.{KeyRecord}
-use Rattle.exchange.specs.declared.sealed.Plain.{Plain}
+use Rattle.base.specs.Octets.{Octets}
 use Rattle.requests.specs.Outgoing.{CountsAnswer, OwnRequests}
 use Rattle.sadb.specs.Database.{Database, IsReserved, Releases}
 use Rattle.association.specs.AskedChildren.{asked_of}
 use Rattle.association.specs.Closing.{HoldsReserved, HoldsSpi}
-use Rattle.association.specs.Purposes.{spi_asked, AwaitsChild}
+use Rattle.association.specs.Purposes.{sought_of, spi_asked, AwaitsChild}
 use Rattle.association.specs.declared.phase.Association.{Association}
-use Rattle.association.specs.declared.phase.Phase.TheVariants as phase
 use Rattle.association.specs.declared.phase.Request.{Request}
 use Rattle.association.specs.declared.purpose.FurtherChild.{FurtherChild}
-use Rattle.association.specs.declared.purpose.Purpose.TheVariants.{CreateChild}
+use Rattle.association.specs.declared.purpose.Purpose.{Purpose}
+use Rattle.association.specs.declared.purpose.Purpose.TheVariants.{Begin, CreateChild, DeleteAssociation, DeleteChild, Identify, Probe}
+use Rattle.association.specs.declared.purpose.Sought.TheVariants as sought
 use Rattle.children.specs.declared.asking.Asked.{Asked}
 use Rattle.association.specs.Issuing.{with_outgoing}
-use Rattle.setup.specs.Configs.{Setup}
-use Rattle.further.specs.Concluding.{Concludes, KeepsTo}
-use Rattle.exchange.specs.Chains.{TellsError}
-use Rattle.further.specs.declared.concluding.Concluded.{Concluded}
-use Rattle.further.specs.declared.concluding.Conclusion.{Conclusion}
-use Rattle.further.specs.declared.concluding.Conclusion.TheVariants as conclusion
-use Rattle.create_child.specs.Counting.{ConcludesAt, HasItsSpi}
 
-its_own : (asked : Asked) (spi : ℕ) (o : Conclusion) → asked.spi ≡ spi → KeepsTo asked o → HasItsSpi spi o
-its_own asked spi conclusion.Closes same keeps = tt
-its_own asked spi (conclusion.Made pair) same keeps = keeps.spi ∙ same
-its_own asked spi conclusion.NoChild same keeps = tt
+-- what was asked for is what the request for an additional Child SA asked for
+pub record IsThatChild (p : Purpose) (asked : Asked) (nonce : Octets) : Type 0 where
+  pub further : FurtherChild
+  pub is : p ≡ CreateChild further
+  pub asked_is : asked ≡ asked_of further.child
+  pub nonce_is : nonce ≡ further.nonce
 
-pub concluded_at : (setup : Setup) (a : Association) (keys : KeyRecord) (number : ℕ) (plain : Plain) (request : Request) (further : FurtherChild) (asked : Asked) (o : Concluded)
-    → a.phase ≡ phase.Established keys → map.get a.outgoing.outstanding number ≡ Some request → request.purpose ≡ CreateChild further → asked ≡ asked_of further.child
-    → Concludes setup.config.blocks a.serial keys asked further.nonce plain o.conclusion → TellsError plain o.error → KeepsTo asked o.conclusion → ConcludesAt setup a number plain o
-concluded_at setup a keys number plain request further asked o established there is same due told keeps = record {
-  keys = keys;
-  established = established;
-  at = record { request = request; outstanding = there; further = further; asked = is };
-  due = subst (λ (x : Asked). Concludes setup.config.blocks a.serial keys x further.nonce plain o.conclusion) same due;
-  told = told;
-  its_own = its_own asked further.child.spi o.conclusion (ap (λ (x : Asked). x.spi) same) keeps;
+same_asked : (a b : Asked) (n m : Octets) → sought.Child a n ≡ sought.Child b m → a ≡ b
+same_asked a b n m is = cc
+
+same_nonce : (a b : Asked) (n m : Octets) → sought.Child a n ≡ sought.Child b m → n ≡ m
+same_nonce a b n m is = cc
+
+pub that_child : (p : Purpose) (asked : Asked) (nonce : Octets) → sought.Child asked nonce ≡ sought_of p → IsThatChild p asked nonce
+that_child (CreateChild further) asked nonce is = record {
+  further = further;
+  is = refl;
+  asked_is = same_asked asked (asked_of further.child) nonce further.nonce is;
+  nonce_is = same_nonce asked (asked_of further.child) nonce further.nonce is;
 }
+that_child Begin asked nonce is = absurd (cc)
+that_child Identify asked nonce is = absurd (cc)
+that_child Probe asked nonce is = absurd (cc)
+that_child (DeleteChild child) asked nonce is = absurd (cc)
+that_child DeleteAssociation asked nonce is = absurd (cc)
 
 -- another SPI stays reserved
 pub release_keeps : (old : Database) (spi : ℕ) (new : Database) (q : ℕ) → q ≢ spi → Releases old spi new → IsReserved old q → IsReserved new q

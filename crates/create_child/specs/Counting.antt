@@ -1,7 +1,6 @@
 -- The response to a request for an additional Child SA, and what comes of it (RFC 7296 sections 1.3.1, 2.17
 -- and 2.21.3).
 use Rattle.std.specs.Prelude.{◌≡◌, ℕ, Bool, true, false, Option, Some, None}
-use Rattle.std.specs.FinMap as map
 use Rattle.suite.specs.declared.key_record.KeyRecord.{KeyRecord}
 use Rattle.exchange.specs.declared.sealed.Plain.{Plain}
 use Rattle.requests.specs.Outgoing.{CountsAnswer, OwnRequests}
@@ -22,42 +21,14 @@ use Rattle.association.specs.declared.outcome.Ended.{Ended}
 use Rattle.association.specs.declared.outcome.Fate.{Fate}
 use Rattle.association.specs.declared.outcome.Fate.TheVariants as fate
 use Rattle.further.specs.Concluding.{Concludes}
-use Rattle.exchange.specs.Chains.{TellsError}
-use Rattle.further.specs.declared.concluding.Concluded.{Concluded}
 use Rattle.further.specs.declared.concluding.Conclusion.{Conclusion}
 use Rattle.further.specs.declared.concluding.Conclusion.TheVariants as conclusion
-
--- the request with this Message ID waits for its answer, and asked for an additional Child SA
-pub record AsksAt (requests : OwnRequests Request) (number : ℕ) : Type 0 where
-  pub request : Request
-  pub outstanding : map.get requests.outstanding number ≡ Some request
-  pub further : FurtherChild
-  pub asked : request.purpose ≡ CreateChild further
-
--- and does so at an established IKE SA
-pub record AwaitsFurther (a : Association) (number : ℕ) : Type 0 where
-  pub established : IsEstablished a.phase
-  pub asked : AsksAt a.outgoing number
 
 -- a Child SA that is made has the SPI that was reserved for it
 abbrev pub HasItsSpi : ℕ → Conclusion → Type 0
 HasItsSpi spi conclusion.Closes = Unit {0}
 HasItsSpi spi (conclusion.Made pair) = pair.inbound.association.spi ≡ spi
 HasItsSpi spi conclusion.NoChild = Unit {0}
-
--- what the response makes of it, under the IKE SA's keys; only private contracts cite this, the one before
--- and the next
-pub record ConcludesAt (setup : Setup) (a : Association) (number : ℕ) (plain : Plain) (concluded : Concluded) : Type 0 where
-  pub keys : KeyRecord
-  pub established : a.phase ≡ phase.Established keys
-  pub at : AsksAt a.outgoing number
-  pub due : Concludes setup.config.blocks a.serial keys (asked_of at.further.child) at.further.nonce plain concluded.conclusion
-  pub told : TellsError plain concluded.error
-  pub its_own : HasItsSpi at.further.child.spi concluded.conclusion
-
-abbrev pub ConcludesWhereAwaited : Setup → Association → ℕ → Plain → Option Concluded → Type 0
-ConcludesWhereAwaited setup a number plain None = ¬ AwaitsFurther a number
-ConcludesWhereAwaited setup a number plain (Some concluded) = ConcludesAt setup a number plain concluded
 
 abbrev pub is_closing_conclusion : Conclusion → Bool
 is_closing_conclusion conclusion.Closes = true
@@ -103,7 +74,7 @@ pub record CountsFurther (setup : Setup) (old : Association) (table : Database) 
   pub declined : IsDeclinedBy plain ended.fate ended.declined
   pub ends : EndsFurther conclusion further.child.spi (with_outgoing old outgoing) table setup.moment ended.fate new new_table
 
--- It is matched where it answers such a request; else nothing is done.
+-- It is matched at an established IKE SA. Elsewhere nothing is done.
 abbrev pub CountsWhereAwaited : Setup → Association → Database → ℕ → Plain → Option Ended → Association → Database → Type 0
-CountsWhereAwaited setup old table number plain None new new_table = (¬ AwaitsFurther old number) × (new ≡ old) × (new_table ≡ table)
+CountsWhereAwaited setup old table number plain None new new_table = (¬ IsEstablished old.phase) × (new ≡ old) × (new_table ≡ table)
 CountsWhereAwaited setup old table number plain (Some ended) new new_table = CountsFurther setup old table number plain ended new new_table

@@ -4,11 +4,13 @@ ghost use Rattle.sadb.specs.Database.{IsReserved};
 ghost use Rattle.association.specs.Closing.{HoldsReserved, HoldsSpi};
 ghost use Rattle.children.specs.declared.fault.MemoryFault.TheVariants as child;
 ghost use Rattle.setup.specs.Configs.{setup_of};
-ghost use Rattle.create_child.specs.Counting.{ConcludesWhereAwaited, CountsWhereAwaited, EndsFurther, HasItsSpi};
+ghost use Rattle.association.specs.Purposes.{SeeksAt};
+ghost use Rattle.association.specs.declared.purpose.Sought.TheVariants as sought;
+ghost use Rattle.create_child.specs.Counting.{CountsWhereAwaited, EndsFurther, HasItsSpi};
 
 use association::laws::{children_are_asked_for, spis_stay_held};
-use association::{Association, Ended, Fate, Phase, Purpose, unless_made};
-use children::MemoryFault;
+use association::{Association, Ended, Fate, Phase, unless_made};
+use children::{Asked, MemoryFault};
 use exchange::Plain;
 use further::{Concluded, Conclusion, conclude_response};
 use sadb::{Spi, Table};
@@ -19,29 +21,42 @@ use std::alloc::Global;
 /// that it opened to and what [`further::conclude_response`] makes of them. The IKE SA is closed, the child
 /// is made under the SPI that was reserved for it, or no child is made and that SPI is given up. Where no
 /// child is made, the first error notification of the answer is told ([`Ended::declined`]). It is `None`, and
-/// nothing is changed, where the IKE SA is not established, or no request with this Message ID that asked for
-/// a child is outstanding.
+/// nothing is changed, where the IKE SA is not established.
 ///
-/// The caller asks only where the SPIs that the IKE SA holds are reserved in the table. The only error is an
-/// allocation failure, for the message or the SA pair: its place in the table stands since its SPI was
-/// reserved. It changes nothing.
+/// The caller gives what the outstanding request with this Message ID asked for, and its nonce, and asks only
+/// where the SPIs that the IKE SA holds are reserved in the table. The only error is an allocation failure,
+/// for the message or the SA pair: its place in the table stands since its SPI was reserved. It changes
+/// nothing.
 pub fn count<C>(
     alloc: Global,
     setup: &Setup<'_, C>,
     association: &mut Association,
     table: &mut Table,
     number: u32,
+    asked: &Asked,
+    nonce: &[u8; 32],
     plain: &Plain,
 ) -> Result<Option<Ended>, MemoryFault>
+    requires sought { SeeksAt association.old.outgoing number (sought.Child asked.now nonce.now) }
     requires reserved { HoldsReserved association.old table.old }
     ensures counted { IfOk result (λ ended. CountsWhereAwaited (setup_of setup.now)
         association.old table.old number plain.now ended association.new table.new) }
     ensures refused { IfErr result (λ _. (association.new ≡ association.old) × (table.new ≡ table.old)) }
     ensures wanted { IfErr result (λ fault. fault ≢ child.Table) }
 {
-    let Some(concluded) = conclusion_at(alloc, setup, association, number, plain)? else {
+    let Phase::Established(keys) = &association.phase else {
         return Ok(None);
     };
+    let blocks = setup.config.blocks();
+    let concluded = conclude_response(
+        alloc,
+        plain,
+        asked,
+        nonce,
+        association.serial,
+        keys,
+        blocks,
+    )?;
     let Concluded { conclusion, error } = concluded;
     spis_stay_held();
     children_are_asked_for();
@@ -51,39 +66,6 @@ pub fn count<C>(
     let fate = conclude(association, table, spi, conclusion, setup.moment);
     let declined = unless_made(fate, error);
     Ok(Some(Ended { fate, declined }))
-}
-
-// What the response makes of the request with its Message ID, where that asked for a Child SA.
-fn conclusion_at<C>(
-    alloc: Global,
-    setup: &Setup<'_, C>,
-    association: &Association,
-    number: u32,
-    plain: &Plain,
-) -> Result<Option<Concluded>, MemoryFault>
-    ensures concluded { IfOk result
-        (ConcludesWhereAwaited (setup_of setup.now) association.now number plain.now) }
-    ensures wanted { IfErr result (λ fault. fault ≢ child.Table) }
-{
-    let Phase::Established(keys) = &association.phase else {
-        return Ok(None);
-    };
-    let Some(request) = association.outgoing.get(number) else {
-        return Ok(None);
-    };
-    let Purpose::CreateChild(further) = &request.purpose else {
-        return Ok(None);
-    };
-    let concluded = conclude_response(
-        alloc,
-        plain,
-        &further.child.asked(),
-        &further.nonce,
-        association.serial,
-        keys,
-        setup.config.blocks(),
-    )?;
-    Ok(Some(concluded))
 }
 
 // The Child SA's SPI, which the IKE SA holds no more, goes to its SA pair or back to the table.

@@ -13,7 +13,7 @@
 //! if let Some(answered) = answer(alloc, &step, &mut association, &mut table, number, &plain)? {
 //!     send(answered.octets);
 //! }
-//! let ended = count(alloc, &step, &mut association, &mut table, number, &plain)?;
+//! let ended = count(alloc, &step, &mut association, &mut table, number, &asked, &nonce, &plain)?;
 //! ```
 //!
 //! # How it is proved

@@ -1,5 +1,5 @@
 -- What an answer takes of an offer.
-use Rattle.std.proofs.Common.{◌≡◌, ◌≢◌, ◌⊎◌, inl, inr, ◌∷◌, [], ℕ, zero, suc, Bool, true, false, List, Option, Some, None, All, Contains, slice_index_or, ap, refl, subst, sym, ◌∙◌, arith}
+use Rattle.std.proofs.Common.{◌≡◌, inl, inr, ◌∷◌, [], ℕ, zero, suc, Bool, true, false, List, Option, Some, None, All, Contains, slice_index_or, ap, refl, subst, sym, ◌∙◌, arith}
 use Rattle.std.proofs.lemmas.Bool.{eqb-true}
 use Rattle.base.specs.Octets.{Octets}
 use Rattle.wire.specs.Numbers.{CREATE_CHILD_SA, IKE_AUTH, INFORMATIONAL}

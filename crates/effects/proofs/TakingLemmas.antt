@@ -1,15 +1,15 @@
 -- What a response does, by the call that matched it.
 use Rattle.std.proofs.Common.{arith, ◌≡◌, ◌≢◌, inl, inr, ℕ, Bool, true, false, Option, Some, None, ap, refl, subst, sym, ◌∙◌}
-use Rattle.std.specs.FinMap as map
 use Rattle.std.proofs.lemmas.Bool.{eqb-true}
 use Rattle.wire.specs.Numbers.{CREATE_CHILD_SA, IKE_AUTH, IKE_SA_INIT, INFORMATIONAL}
+use Rattle.base.specs.Octets.{Octets}
 use Rattle.wire.specs.declared.message.Message.{Message}
 use Rattle.exchange.specs.declared.sealed.Plain.{Plain}
 use Rattle.sadb.specs.Database.{Database}
 use Rattle.children.specs.declared.fault.MemoryFault.{MemoryFault}
 use Rattle.children.specs.declared.fault.MemoryFault.TheVariants as child
 use Rattle.association.specs.Phases.{IsEstablished}
-use Rattle.association.specs.Purposes.{asks_for_child, exchange_of, AsksForNoFurtherChild}
+use Rattle.association.specs.Purposes.{asks_for_child, exchange_of, sought_of, AsksForNoFurtherChild, SeeksAt}
 use Rattle.association.specs.Receiving.{IsAwaited}
 use Rattle.association.specs.declared.fault.MessageFault.TheVariants.{WrongPhase}
 use Rattle.association.specs.declared.outcome.Ended.{Ended}
@@ -19,10 +19,13 @@ use Rattle.association.specs.declared.phase.Phase.TheVariants as phase
 use Rattle.association.specs.declared.phase.Request.{Request}
 use Rattle.association.specs.declared.purpose.Purpose.{Purpose}
 use Rattle.association.specs.declared.purpose.Purpose.TheVariants as purpose
+use Rattle.association.specs.declared.purpose.Sought.{Sought}
+use Rattle.association.specs.declared.purpose.Sought.TheVariants as sought
+use Rattle.children.specs.declared.asking.Asked.{Asked}
 use Rattle.setup.specs.Configs.{Setup}
 use Rattle.initial.specs.Ending.{EndsWhereSent, IsAuthSent}
 use Rattle.informational.specs.Counting.{CountsWhereEstablished}
-use Rattle.create_child.specs.Counting.{AwaitsFurther, CountsWhereAwaited}
+use Rattle.create_child.specs.Counting.{CountsWhereAwaited}
 use Rattle.effects.specs.Taking.{asked_further, counted_by, has_asked, CanWantIn, DoesAnswer, DoesResponse, Meaning}
 use Rattle.effects.specs.Waiting.{IsAskedLater, MayBeOutstanding, SuitPhase}
 use Rattle.effects.specs.declared.taking.Effect.{Effect}
@@ -42,6 +45,54 @@ not_further purpose.DeleteAssociation other = refl
 
 same_request : (one other : Request) → Some one ≡ Some other → one ≡ other
 same_request one other is = cc
+
+-- which exchange a response has, by what its request asked for
+seeks_identity : (asked : Purpose) → sought.Identity ≡ sought_of asked → exchange_of asked ≡ IKE_AUTH
+seeks_identity purpose.Identify is = refl
+seeks_identity purpose.Begin is = absurd (cc)
+seeks_identity (purpose.CreateChild further) is = absurd (cc)
+seeks_identity purpose.Probe is = absurd (cc)
+seeks_identity (purpose.DeleteChild child) is = absurd (cc)
+seeks_identity purpose.DeleteAssociation is = absurd (cc)
+
+seeks_child : (wanted : Asked) (nonce : Octets) (asked : Purpose) → sought.Child wanted nonce ≡ sought_of asked → exchange_of asked ≡ CREATE_CHILD_SA
+seeks_child wanted nonce (purpose.CreateChild further) is = refl
+seeks_child wanted nonce purpose.Identify is = absurd (cc)
+seeks_child wanted nonce purpose.Begin is = absurd (cc)
+seeks_child wanted nonce purpose.Probe is = absurd (cc)
+seeks_child wanted nonce (purpose.DeleteChild child) is = absurd (cc)
+seeks_child wanted nonce purpose.DeleteAssociation is = absurd (cc)
+
+seeks_other : (asked : Purpose) → sought.Other ≡ sought_of asked → (exchange_of asked ≢ IKE_AUTH) × (exchange_of asked ≢ CREATE_CHILD_SA)
+seeks_other purpose.Begin is = ((λ same. omega (arith, same)), (λ same. omega (arith, same)))
+seeks_other purpose.Probe is = ((λ same. omega (arith, same)), (λ same. omega (arith, same)))
+seeks_other (purpose.DeleteChild child) is = ((λ same. omega (arith, same)), (λ same. omega (arith, same)))
+seeks_other purpose.DeleteAssociation is = ((λ same. omega (arith, same)), (λ same. omega (arith, same)))
+seeks_other purpose.Identify is = absurd (cc)
+seeks_other (purpose.CreateChild further) is = absurd (cc)
+
+-- it is the request that waits
+seeks_there : (old : Association) (m : Message) (seeks : Sought) (due : IsAwaited old m) → SeeksAt old.outgoing m.header.id seeks → seeks ≡ sought_of due.request.purpose
+seeks_there old m seeks due at = at.is ∙ ap (λ (r : Request). sought_of r.purpose) (same_request at.request due.request (sym at.outstanding ∙ due.outstanding))
+
+pub sought_auth : (old : Association) (m : Message) → IsAwaited old m → SeeksAt old.outgoing m.header.id sought.Identity → m.header.exchange ≡ IKE_AUTH
+sought_auth old m due at = sym (awaited_exchange old m due) ∙ seeks_identity due.request.purpose (seeks_there old m sought.Identity due at)
+
+pub sought_child : (wanted : Asked) (nonce : Octets) (old : Association) (m : Message) → IsAwaited old m → SeeksAt old.outgoing m.header.id (sought.Child wanted nonce) → m.header.exchange ≡ CREATE_CHILD_SA
+sought_child wanted nonce old m due at =
+    sym (awaited_exchange old m due) ∙ seeks_child wanted nonce due.request.purpose (seeks_there old m (sought.Child wanted nonce) due at)
+
+pub sought_other : (old : Association) (m : Message) → IsAwaited old m → SeeksAt old.outgoing m.header.id sought.Other
+    → (m.header.exchange ≢ IKE_AUTH) × (m.header.exchange ≢ CREATE_CHILD_SA)
+sought_other old m due at =
+    let apart = seeks_other due.request.purpose (seeks_there old m sought.Other due at) in
+    ((λ same. apart.0 (awaited_exchange old m due ∙ same)), (λ same. apart.1 (awaited_exchange old m due ∙ same)))
+
+pub sought_no_auth : (wanted : Asked) (nonce : Octets) (old : Association) (m : Message) → IsAwaited old m → SeeksAt old.outgoing m.header.id (sought.Child wanted nonce) → m.header.exchange ≢ IKE_AUTH
+sought_no_auth wanted nonce old m due at = λ same. let e : CREATE_CHILD_SA ≡ IKE_AUTH = sym (sought_child wanted nonce old m due at) ∙ same in omega arith
+
+pub sought_no_child : (old : Association) (m : Message) → IsAwaited old m → SeeksAt old.outgoing m.header.id sought.Identity → m.header.exchange ≢ CREATE_CHILD_SA
+sought_no_child old m due at = λ same. let e : IKE_AUTH ≡ CREATE_CHILD_SA = sym (sought_auth old m due at) ∙ same in omega arith
 
 -- the request that waits is the one whose exchange the response has
 pub asks_none : (old : Association) (m : Message) → IsAwaited old m → m.header.exchange ≢ CREATE_CHILD_SA → AsksForNoFurtherChild old.outgoing m.header.id
@@ -118,16 +169,6 @@ answers_at meaning setup p old table number plain e new new_table asked establis
     subst (λ (q : Phase). DoesResponse meaning setup q old table number plain e new new_table) (sym established.is)
     (subst (λ (b : Bool). DoesAnswer b setup old table number plain e new new_table) (sym told) is)
 
-awaits_further : (old : Association) (number : ℕ) (request : Request) (asked : Purpose) → map.get old.outgoing.outstanding number ≡ Some request → request.purpose ≡ asked → exchange_of asked ≡ CREATE_CHILD_SA
-    → IsEstablished old.phase → AwaitsFurther old number
-awaits_further old number request (purpose.CreateChild further) there is same established =
-    record { established = established; asked = record { request = request; outstanding = there; further = further; asked = is } }
-awaits_further old number request purpose.Begin there is same established = absurd (omega arith)
-awaits_further old number request purpose.Identify there is same established = absurd (omega arith)
-awaits_further old number request purpose.Probe there is same established = absurd (omega arith)
-awaits_further old number request (purpose.DeleteChild child) there is same established = absurd (omega arith)
-awaits_further old number request purpose.DeleteAssociation there is same established = absurd (omega arith)
-
 pub further_counted : (meaning : Meaning) (setup : Setup) (old : Association) (table : Database) (m : Message) (plain : Plain) (ended : Option Ended) (new : Association) (new_table : Database)
     → IsAwaited old m → SuitPhase old.phase old.outgoing.outstanding → m.header.exchange ≢ IKE_AUTH → m.header.exchange ≡ CREATE_CHILD_SA
     → CountsWhereAwaited setup old table m.header.id plain ended new new_table
@@ -136,8 +177,7 @@ further_counted meaning setup old table m plain (Some ended) new new_table due w
     answers_at meaning setup old.phase old table m.header.id plain (effect.Counted ended) new new_table true (record { keys = is.keys; is = is.established })
     (ap has_asked is.counted.there ∙ ap asks_for_child is.asked) is
 further_counted meaning setup old table m plain None new new_table due waits other same is =
-    passed_over meaning setup old.phase old table m.header.id plain new new_table (not_sent old m due waits other)
-    (λ established. is.0 (awaits_further old m.header.id due.request due.request.purpose due.outstanding refl (awaited_exchange old m due ∙ same) established)) is.1 is.2
+    passed_over meaning setup old.phase old table m.header.id plain new new_table (not_sent old m due waits other) is.0 is.1 is.2
 
 pub informing_counted : (meaning : Meaning) (setup : Setup) (old : Association) (table : Database) (m : Message) (plain : Plain) (ended : Option Ended) (new : Association) (new_table : Database)
     → IsAwaited old m → SuitPhase old.phase old.outgoing.outstanding → m.header.exchange ≢ IKE_AUTH → m.header.exchange ≢ CREATE_CHILD_SA

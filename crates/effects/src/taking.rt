@@ -4,13 +4,14 @@ ghost use Rattle.wire.specs.Messages.{Spells};
 ghost use Rattle.requests.specs.Incoming.{IsFreshRequest};
 ghost use Rattle.sadb.specs.Database.{IsAsBefore};
 ghost use Rattle.association.specs.Closing.{HoldsReserved};
+ghost use Rattle.association.specs.Purposes.{SeeksAt};
 ghost use Rattle.association.specs.Receiving.{admits, IsAnsweringInitial, IsAwaited};
 ghost use Rattle.setup.specs.Configs.{setup_of};
 ghost use Rattle.effects.specs.Waiting.{SuitPhase};
 ghost use Rattle.effects.specs.Taking.{counted_by, meaning_of, replied_by, CanWant, CanWantIn, DoesInitial, DoesRequest, DoesResponse, TakesMessage};
 
 use association::laws::receptions_say_why;
-use association::{Answered, Association, Ended, MessageFault, Received, receive};
+use association::{Answered, Association, Ended, MessageFault, Received, Sought, receive};
 use base::Items;
 use children::MemoryFault;
 use exchange::Plain;
@@ -20,7 +21,7 @@ use setup::Setup;
 use std::alloc::{AllocError, Global};
 use suite::{Agreement, Proof, Sealer};
 use wire::Message;
-use wire::numbers::{CREATE_CHILD_SA, IKE_AUTH, INFORMATIONAL};
+use wire::numbers::{IKE_AUTH, INFORMATIONAL};
 
 /// What came of a message.
 #[derive(Debug, Drop)]
@@ -87,12 +88,13 @@ pub fn take_message<C: Sealer + Agreement + Proof>(
             message.header.id,
             &plain,
         ),
-        Received::Response(plain) => take_response(
+        Received::Response { sought, plain } => take_response(
             alloc,
             setup,
             association,
             table,
             message,
+            sought,
             &plain,
         ),
     }
@@ -174,9 +176,11 @@ fn take_response<C: Sealer + Agreement + Proof>(
     association: &mut Association,
     table: &mut Table,
     message: &Message,
+    sought: Sought,
     plain: &Plain,
 ) -> Result<Effect, MemoryFault>
     requires due { IsAwaited association.old message.now }
+    requires sought { SeeksAt association.old.outgoing message.now.header.id sought }
     requires waits { SuitPhase association.old.phase association.old.outgoing.outstanding }
     requires reserved { HoldsReserved association.old table.old }
     ensures taken { IfOk result (λ effect. DoesResponse
@@ -188,21 +192,33 @@ fn take_response<C: Sealer + Agreement + Proof>(
         (CanWantIn association.old.phase true message.now.header.exchange table.old) }
 {
     let number = message.header.id;
-    let exchange = message.header.exchange;
-    if exchange == IKE_AUTH {
-        let ended = end_auth(alloc, setup, association, table, number, plain)?;
-        Ok(counted(ended))
-    } else if exchange == CREATE_CHILD_SA {
-        let ended = create_child::count(alloc, setup, association, table, number, plain)?;
-        Ok(counted(ended))
-    } else {
-        let ended = informational::count(alloc, setup, association, table, number, plain)?;
-        Ok(counted(ended))
+    match sought {
+        Sought::Identity => {
+            let ended = end_auth(alloc, setup, association, table, number, plain)?;
+            Ok(counted(ended))
+        }
+        Sought::Child { asked, nonce } => {
+            let ended = create_child::count(
+                alloc,
+                setup,
+                association,
+                table,
+                number,
+                &asked,
+                &nonce,
+                plain,
+            )?;
+            Ok(counted(ended))
+        }
+        Sought::Other => {
+            let ended = informational::count(alloc, setup, association, table, number, plain)?;
+            Ok(counted(ended))
+        }
     }
 }
 
 // What came of a response, by how it was matched. It was not, in a phase to which its exchange doesn't
-// belong, or where no request asked for it.
+// belong.
 fn counted(ended: Option<Ended>) -> Effect
     ensures { result ≡ counted_by ended }
 {
