@@ -11,3 +11,5 @@ mod InsideRunLemmas
 mod ClosingLemmas
 mod WorkedStrangerLemmas
 mod WorkedClosingLemmas
+mod LeavingLemmas
+mod EffectLemmas

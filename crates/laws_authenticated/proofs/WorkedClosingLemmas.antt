@@ -1,6 +1,7 @@
 -- The worked step that closes an IKE SA is one.
-use Rattle.std.proofs.Common.{◌≡◌, ◌+◌, inl, inr, ℕ, true, cond, is_some, [], ◌∷◌, Some, None, ap, arith, refl, subst, sym, ◌∙◌}
+use Rattle.std.proofs.Common.{◌≡◌, ◌+◌, inl, inr, ℕ, true, cond, is_some, [], ◌∷◌, Some, None, ap, arith, refl, subst, suc, sym, zero, ◌∙◌}
 use Rattle.std.proofs.lemmas.Bool.{eq-eqb}
+use Rattle.std.proofs.lemmas.Option.{none-some, same_Some}
 use Rattle.std.specs.Cmp.{nat_cmp_total, unsigned_tied}
 use Rattle.std.specs.FinMap as map
 use Rattle.std.specs.Ordering.{nat_cmp}
@@ -22,13 +23,17 @@ use Rattle.association.specs.declared.outcome.Fate.TheVariants as fate
 use Rattle.association.specs.declared.phase.Association.{Association}
 use Rattle.setup.specs.Configs.{IsConfig, Setup}
 use Rattle.setup.specs.declared.config.Config.{Config}
+use Rattle.effects.specs.Lengths.{TellsLengths}
 use Rattle.effects.specs.Taking.{TakesMessage}
 use Rattle.effects.specs.declared.taking.Effect.TheVariants as effect
 use Rattle.ike.specs.Outputs.{stepped_of}
-use Rattle.gateway.specs.Histories.{IsPassage}
+use Rattle.gateway.specs.Histories.{IsPassage, Passage}
 use Rattle.gateway.specs.WorkedRequests.{first_taken, one_more_taken, worked_association, worked_keys, worked_meaning, worked_reply}
 use Rattle.gateway.proofs.WorkedRequestLemmas.{answered, fine_before, first_three, fresh_two, none_asked, same_association, sound_state, the_reply}
-use Rattle.laws_authenticated.specs.WorkedClosings.{closed_association, deletion_counts, deletion_payload, deletion_under_keys, sealed_deletion, IsClosedByItsPeer}
+use Rattle.laws_authenticated.specs.LeavingOut.{EachLeftOut, IsWithoutEffect}
+use Rattle.laws_authenticated.specs.Strangers.{IsStrange}
+use Rattle.laws_authenticated.specs.WorkedClosings.{closed_association, deletion_counts, deletion_payload, deletion_under_keys, sealed_deletion, worked_deletions, CanLeaveAStrangerOut, IsClosedByItsPeer}
+use Rattle.laws_authenticated.specs.WorkedStrangers.{deletion_comes}
 use Rattle.laws_authenticated.proofs.WorkedStrangerLemmas.{octets_if, step}
 
 -- ---- the octets
@@ -247,4 +252,26 @@ module _ {C : Type 0} (config : Config) (caller : C) (is : IsConfig config) (fro
       there = refl;
       over = record { closed = λ a there. is_over a there };
     };
+  }
+
+  -- the place of the only mark
+  left_out : IsStrange worked_meaning (deletion_comes config caller from fresh).before (deletion_comes config caller from fresh).given → EachLeftOut (IsWithoutEffect (λ _. worked_meaning)) (true ∷ []) (worked_deletions config caller from fresh)
+  left_out strange zero p marked there = subst (λ (x : Passage C). IsWithoutEffect (λ _. worked_meaning) x) (same_Some (deletion_comes config caller from fresh) p there) (inl strange)
+  left_out strange (suc place) p marked there = absurd (none-some true marked)
+
+  nothing_told : TellsLengths worked_meaning.body_of fresh.seal
+  nothing_told = record { told = λ keys whole. record { told = λ head other plain one two octets. refl } }
+
+  pub stranger_left_out : IsStrange worked_meaning (deletion_comes config caller from fresh).before (deletion_comes config caller from fresh).given → CanLeaveAStrangerOut config caller from fresh
+  stranger_left_out strange = record {
+    alike = record {
+      first = closed_by_its_peer.trail;
+      second = (refl, closing, refl);
+      inputs = refl;
+      each = ((octets_if sealed_deletion refl, nothing_told), tt);
+      memory = (refl, tt);
+      memory_too = (refl, tt);
+    };
+    out = left_out strange;
+    nothing_out = λ place p marked there. absurd (none-some true marked);
   }

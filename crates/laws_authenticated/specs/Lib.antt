@@ -4,3 +4,4 @@ pub mod Inside
 pub mod Closing
 pub mod WorkedStrangers
 pub mod WorkedClosings
+pub mod LeavingOut

@@ -1,6 +1,6 @@
 -- A worked step with which an IKE SA is closed: its peer asks under its keys to delete it (RFC 7296 section
 -- 1.4.1). Before that the same was asked in clear.
-use Rattle.std.specs.Prelude.{◌+◌, Some, List, [], ◌∷◌}
+use Rattle.std.specs.Prelude.{◌+◌, Some, List, [], ◌∷◌, true}
 use Rattle.std.specs.FinMap as map
 use Rattle.base.specs.Octets.{Octets}
 use Rattle.wire.specs.Messages.{Spells}
@@ -17,6 +17,7 @@ use Rattle.gateway.specs.Inputs as input
 use Rattle.gateway.specs.Outputs.{Reply}
 use Rattle.gateway.specs.WorkedRequests.{first_taken, gateway_with, one_more_taken, worked_association, worked_keys, worked_meaning, worked_reply}
 use Rattle.laws_authenticated.specs.Carrying.{EachPairIsOfAnEstablished}
+use Rattle.laws_authenticated.specs.LeavingOut.{AreGivenAlike, EachLeftOut, IsRightlyGiven, IsWithoutEffect}
 use Rattle.laws_authenticated.specs.Closing.{IsOverBy}
 use Rattle.laws_authenticated.specs.WorkedStrangers.{deletion, deletion_comes}
 
@@ -59,3 +60,13 @@ pub record IsClosedByItsPeer {C : Type 0} (config : Config) (caller : C) (from :
   pub spelled : Spells deletion_under_keys sealed_deletion
   pub all : EachPairIsOfAnEstablished (gateway_with config caller (worked_association first_taken))
   pub over : IsOverBy (worked_deletions config caller from fresh) 1 1
+
+-- The first of these steps is left out, at which a stranger asks the same. Its premises are met: the gateway that
+-- is given the peer's deletion alone is given the rest, and the stranger's datagram is without effect. What both
+-- are given brings the IKE SA to its end.
+pub record CanLeaveAStrangerOut {C : Type 0} (config : Config) (caller : C) (from : Octets) (fresh : Fresh) : Type 0 where
+  pub alike : AreGivenAlike (λ _. worked_meaning) (IsRightlyGiven (λ _. worked_meaning)) (true ∷ []) [] (worked_deletions config caller from fresh) (deletion_counts config caller from fresh ∷ [])
+      (gateway_with config caller (worked_association first_taken)) (gateway_with config caller (worked_association first_taken))
+      (gateway_with config caller closed_association) (gateway_with config caller closed_association)
+  pub out : EachLeftOut (IsWithoutEffect (λ _. worked_meaning)) (true ∷ []) (worked_deletions config caller from fresh)
+  pub nothing_out : EachLeftOut (IsWithoutEffect (λ _. worked_meaning)) [] (deletion_counts config caller from fresh ∷ [])
