@@ -1,0 +1,2 @@
+mod WaitingLemmas
+mod CountingLemmas
