@@ -44,6 +44,17 @@ WORDS = {
 # How much a packet whose flow is remembered may cost beside its sealing.
 REMEMBERED = 1.1
 
+# So many flows are sent in turn, by what they differ in; and how much a packet of them may cost beside one of a flow alone. All are remembered, but
+# for the few that share one of 4096 places; a flow that is looked up anew costs half as much again.
+FLOWS = 64
+SPREAD = 1.06
+KINDS = {
+    "source-ports": "{} flows in turn that differ in the source port",
+    "target-ports": "{} flows in turn that differ in the target port",
+    "hosts": "{} flows in turn that differ in an IPv4 address",
+    "hosts6": "{} flows in turn that differ in an address of one IPv6 /64",
+}
+
 
 def build():
     subprocess.run(["rt", "run", "--", "hash", "1", "64"], cwd=CRATE, check=True, stdout=subprocess.DEVNULL)
@@ -159,6 +170,19 @@ def remembered_rows(sealing):
     return wrong
 
 
+def spread_rows():
+    """Prints what packets of many flows cost; answers a line for each kind of which some flows share a place, or are looked up anew."""
+    head("What", "Instructions of a packet", "Over those of one flow")
+    alone, wrong = cost("remembered", 1, 256), []
+    for task, words in KINDS.items():
+        counted = cost(task, FLOWS, few=2, many=6) / FLOWS
+        name = words.format(FLOWS)
+        row(name, f"{counted:,.0f}", f"{counted / alone:.3f}")
+        if counted > SPREAD * alone:
+            wrong.append(f"more than {SPREAD} of a flow alone: {name}: {counted / alone:.3f}")
+    return wrong
+
+
 def timed_rows():
     """Prints what is timed; answers a line for each piece that takes longer than it may."""
     head("What", "Milliseconds", "At most")
@@ -183,6 +207,8 @@ def main():
     print()
     wrong = [f"not between the formula and {OVERHEAD:.0%} above it: {line}" for line in wrong]
     wrong += remembered_rows(costs["seal", SHORT])
+    print()
+    wrong += spread_rows()
     print()
     wrong += timed_rows()
     for line in wrong:

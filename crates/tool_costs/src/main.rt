@@ -3,17 +3,23 @@
 //! two counts: the difference is the cost of the work alone.
 //!
 //! ```text
-//! measures hash COUNT OCTETS        SHA-256 of so many octets
-//! measures seal COUNT OCTETS        a payload of so many octets sealed into a packet with an extended number
-//! measures open COUNT OCTETS        the packet of such a payload opened, each time by a fresh receiver
-//! measures table COUNT PAIRS        of so many pairs the last one found by its SPI, and 1,024 octets sealed by it
-//! measures outbound COUNT PAIRS     of so many pairs, each with one selector a side, the last one found by its flow
-//! measures decide COUNT ENTRIES     a flow decided on that only the last of so many entries holds
-//! measures remembered COUNT PAIRS ENTRIES
+//! tool_costs hash COUNT OCTETS        SHA-256 of so many octets
+//! tool_costs seal COUNT OCTETS        a payload of so many octets sealed into a packet with an extended number
+//! tool_costs open COUNT OCTETS        the packet of such a payload opened, each time by a fresh receiver
+//! tool_costs table COUNT PAIRS        of so many pairs the last one found by its SPI, and 1,024 octets sealed by it
+//! tool_costs outbound COUNT PAIRS     of so many pairs, each with one selector a side, the last one found by its flow
+//! tool_costs decide COUNT ENTRIES     a flow decided on that only the last of so many entries holds
+//! tool_costs remembered COUNT PAIRS ENTRIES
 //!                                   a packet of 64 octets sealed by the last of so many pairs, its flow, which the last of so many
 //!                                   entries protects, being remembered
-//! measures public COUNT             a public value of the 2048-bit group; half of the secret's bits are set
-//! measures cipher COUNT OCTETS      so many octets sealed as the body of an IKE message, AES-256-CBC and HMAC-SHA-256-128
+//! tool_costs source-ports COUNT FLOWS
+//!                                   a packet of 64 octets of each of so many flows, which differ in the source port, sealed; all but
+//!                                   the first turn find the flows remembered, and a policy of 256 entries is passed over
+//! tool_costs target-ports COUNT FLOWS
+//! tool_costs hosts COUNT FLOWS
+//! tool_costs hosts6 COUNT FLOWS     the same, of flows that differ in the target port, in the address, in that within one IPv6 /64
+//! tool_costs public COUNT             a public value of the 2048-bit group; half of the secret's bits are set
+//! tool_costs cipher COUNT OCTETS      so many octets sealed as the body of an IKE message, AES-256-CBC and HMAC-SHA-256-128
 //! ```
 //!
 //! It prints an octet of what the last turn made, so that no compiler leaves the work out. The exit
@@ -24,6 +30,7 @@
 mod ciphers;
 mod packets;
 mod remembered;
+mod spread;
 mod tables;
 mod task;
 
@@ -63,6 +70,7 @@ fn work(alloc: Global, job: Job) -> Option<u8> {
         Task::Outbound { pairs } => tables::outbound(alloc, job.count, pairs),
         Task::Decide { entries } => tables::decide(alloc, job.count, entries),
         Task::Remembered { pairs, entries } => remembered::send(alloc, job.count, pairs, entries),
+        Task::Spread { differing, flows } => spread::send(alloc, job.count, flows, differing),
         Task::Public => ciphers::public(alloc, job.count),
         Task::Cipher { octets } => ciphers::seal(alloc, job.count, octets),
     }

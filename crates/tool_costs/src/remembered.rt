@@ -43,8 +43,8 @@ fn turns(
     Some(last)
 }
 
-// The last octet of the ESP packet that goes out.
-fn sent(
+/// The last octet of the ESP packet that goes out.
+pub fn sent(
     alloc: Global,
     table: &mut Table,
     flows: &mut FlowMemory,
@@ -60,8 +60,8 @@ fn sent(
     }
 }
 
-// An IPv4 packet of 64 octets, of UDP, to the last of so many networks.
-fn packet_to(networks: u16) -> [u8; 64] {
+/// An IPv4 packet of 64 octets, of UDP, to the last of so many networks.
+pub fn packet_to(networks: u16) -> [u8; 64] {
     let [_, second, third, _] = (0x0a00_ff00 + 256 * u32::from(networks)).to_be_bytes();
     let mut packet = [0; 64];
     packet[0] = 0x45;

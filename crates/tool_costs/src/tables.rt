@@ -105,6 +105,34 @@ pub fn policy_before(alloc: Global, entries: u16) -> Option<Policy> {
     Policy::new(items).ok()
 }
 
+/// A table of one pair, for all flows between two ranges of addresses.
+pub fn table_between(alloc: Global, here: Range, there: Range) -> Option<Table> {
+    let mut table = Table::new(alloc, START);
+    let local = Items::from_slice(alloc, &[selector(here)]).ok()?;
+    let remote = Items::from_slice(alloc, &[selector(there)]).ok()?;
+    let window = BlockWindow::new(alloc, 2).ok()?;
+    install(&mut table, window, local, remote)?;
+    Some(table)
+}
+
+/// A policy of so many entries, the last of which protects the flows between two ranges of addresses, and the
+/// others those within the first.
+pub fn policy_between(alloc: Global, entries: u16, here: Range, there: Range) -> Option<Policy> {
+    let mut items = Items::new(alloc);
+    for _ in 1..entries {
+        items.push(between(here, here)).ok()?;
+    }
+    items.push(between(here, there)).ok()?;
+    Policy::new(items).ok()
+}
+
+fn between(local: Range, remote: Range) -> Entry {
+    let mut entry = entry(0);
+    entry.local = local;
+    entry.remote = remote;
+    entry
+}
+
 fn entry(place: u16) -> Entry {
     Entry {
         protocol: 0,

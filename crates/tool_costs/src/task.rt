@@ -1,5 +1,7 @@
 //! The command line.
 
+use crate::spread::Differing;
+
 /// What is done in each turn, and of what size.
 #[derive(Clone, Copy)]
 pub enum Task {
@@ -17,6 +19,8 @@ pub enum Task {
     Decide { entries: u16 },
     /// A packet is sent whose flow is remembered.
     Remembered { pairs: u16, entries: u16 },
+    /// A packet of each of many flows is sent.
+    Spread { differing: Differing, flows: u16 },
     /// A public value of the key agreement is made.
     Public,
     /// A payload is sealed as the body of an IKE message.
@@ -62,8 +66,19 @@ fn task_of_size(name: &str, size: u16) -> Option<Task> {
         "outbound" => Some(Task::Outbound { pairs: size }),
         "decide" => Some(Task::Decide { entries: size }),
         "cipher" => Some(Task::Cipher { octets: size }),
-        _ => None,
+        _ => task_of_flows(name, size),
     }
+}
+
+fn task_of_flows(name: &str, flows: u16) -> Option<Task> {
+    let differing = match name {
+        "source-ports" => Differing::SourcePorts,
+        "target-ports" => Differing::TargetPorts,
+        "hosts" => Differing::Hosts,
+        "hosts6" => Differing::Hosts6,
+        _ => return None,
+    };
+    Some(Task::Spread { differing, flows })
 }
 
 fn task_of_sizes(name: &str, pairs: u16, entries: u16) -> Option<Task> {
