@@ -8,25 +8,21 @@ python3 tools/prove.py [-jN] [NAME ..]
 It prints a line a crate, and ends with status 1 where one fails; the crate's whole output lies in crates/NAME/out/prove.log. While it runs no
 source below a crate under way may change: else that crate counts as not built.
 """
-import importlib.machinery
-import importlib.util
 import os
 import pathlib
-import shutil
 import signal
 import sys
 import threading
 import time
+
+import rt_once
 
 ROOT = pathlib.Path(__file__).resolve().parent.parent
 
 
 def kit():
     """The kit's module, as `rt` loads it. Where this `rt` lets the checkouts of a machine begin with each other's work, so do these proofs."""
-    path = os.path.realpath(shutil.which("rt"))
-    loader = importlib.machinery.SourceFileLoader("rt", path)
-    command = importlib.util.module_from_spec(importlib.util.spec_from_loader("rt", loader))
-    loader.exec_module(command)
+    command = rt_once.kit()
     if hasattr(command, "share_work"):
         command.share_work(True)
     return command.rtlib
