@@ -53,8 +53,8 @@ AreAnsweredAlike {C} marks also passages others = without also (outputs_of other
 
 -- ---- all that a gateway holds
 
--- A datagram is of octets, and the length of a sealed body follows from that of its plain text, as the cipher's
--- law has it. So it is of every input of a gateway that runs.
+-- A datagram is of octets, and the length of a sealed body follows from that of its plain text, as the
+-- cipher's law has it. So it is of every input of a gateway that runs.
 abbrev pub IsRightlyGiven : {C : Type 0} → (C → Meaning) → Passage C → Type 0
 IsRightlyGiven {C} meaning_of p = IsGiven (meaning_of p.before.caller) p.given
 
@@ -93,9 +93,9 @@ GivesPacket {C} p = IsPacket p.given
 abbrev pub KeepsTable : {C : Type 0} → Passage C → Type 0
 KeepsTable {C} p = table_content p.after.table ≡ table_content p.before.table
 
--- What counts for no IKE SA and is accepted by no pair: a request of IKE_SA_INIT, any other datagram that counts
--- for none (the response to an own IKE_SA_INIT among them), an ESP packet that is accepted as no number of no
--- pair, and what comes in unprotected.
+-- What counts for no IKE SA and is accepted by no pair: a request of IKE_SA_INIT, any other datagram that
+-- counts for none (the response to an own IKE_SA_INIT among them), an ESP packet that is accepted as no
+-- number of no pair, and what comes in unprotected.
 abbrev pub IsUncounted : {C : Type 0} → Meaning → State C → Input → Type 0
 IsUncounted {C} meaning s (input.Ike from octets fresh) = IsInitialRequest octets ⊎ ((¬ IsInitialRequest octets) × (¬ CountsForOne meaning.plain_of s.machine.held octets))
 IsUncounted {C} meaning s given = IsStrange meaning s given

@@ -61,9 +61,9 @@ pub record IsClosedByItsPeer {C : Type 0} (config : Config) (caller : C) (from :
   pub all : EachPairIsOfAnEstablished (gateway_with config caller (worked_association first_taken))
   pub over : IsOverBy (worked_deletions config caller from fresh) 1 1
 
--- The first of these steps is left out, at which a stranger asks the same. Its premises are met: the gateway that
--- is given the peer's deletion alone is given the rest, and the stranger's datagram is without effect. What both
--- are given brings the IKE SA to its end.
+-- The first of these steps is left out, at which a stranger asks the same. Its premises are met: the gateway
+-- that is given the peer's deletion alone is given the rest, and the stranger's datagram is without effect.
+-- What both are given brings the IKE SA to its end.
 pub record CanLeaveAStrangerOut {C : Type 0} (config : Config) (caller : C) (from : Octets) (fresh : Fresh) : Type 0 where
   pub alike : AreGivenAlike (λ _. worked_meaning) (IsRightlyGiven (λ _. worked_meaning)) (true ∷ []) [] (worked_deletions config caller from fresh) (deletion_counts config caller from fresh ∷ [])
       (gateway_with config caller (worked_association first_taken)) (gateway_with config caller (worked_association first_taken))

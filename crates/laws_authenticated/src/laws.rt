@@ -224,12 +224,12 @@ pub fn strangers_change_nothing<C>()
     octets_spell_one_message();
 }
 
-/// What has no effect can be left out (RFC 7296, sections 2.1 and 2.6; RFC 4303, section 3.4). Take two runs of
-/// gateways that hold the same, spare room apart. Both are given the same inputs, and each of them others
+/// What has no effect can be left out (RFC 7296, sections 2.1 and 2.6; RFC 4303, section 3.4). Take two runs
+/// of gateways that hold the same, spare room apart. Both are given the same inputs, and each of them others
 /// between them, or none. Each of those others
 ///
-/// - is strange, as [`strangers_change_nothing`] has it: a datagram that counts for no IKE SA and is no message
-///   of IKE_SA_INIT as below, an ESP packet that no pair accepts, or what comes in unprotected;
+/// - is strange, as [`strangers_change_nothing`] has it: a datagram that counts for no IKE SA and is no
+///   message of IKE_SA_INIT as below, an ESP packet that no pair accepts, or what comes in unprotected;
 /// - or is answered by `Refused`, for memory or for any other reason: so the run after a refusal is the run
 ///   without that input;
 /// - or leaves what the gateway holds as it was, as a datagram that is dropped does.
@@ -237,12 +237,12 @@ pub fn strangers_change_nothing<C>()
 /// Then what both are given is answered in both runs by the same outputs, octet for octet, and both gateways
 /// hold the same afterwards. What is left out may have had an answer of its own, as a retransmission has.
 ///
-/// Both are given the same fresh octets and times, and no input of theirs is refused for memory. Datagrams are of
-/// octets, and the cipher's lengths follow its law, which always holds. Strange is what fails a check, and not
-/// who sends it: that nobody without keys passes one is no part of this.
+/// Both are given the same fresh octets and times, and no input of theirs is refused for memory. Datagrams
+/// are of octets, and the cipher's lengths follow its law, which always holds. Strange is what fails a check,
+/// and not who sends it: that nobody without keys passes one is no part of this.
 ///
-/// Not said: the same of requests of IKE_SA_INIT, each of which may make a half-open IKE SA and take a serial, and
-/// of the response to an own one.
+/// Not said: the same of requests of IKE_SA_INIT, each of which may make a half-open IKE SA and take a
+/// serial, and of the response to an own one.
 pub fn what_has_no_effect_can_be_left_out<C>()
     ensures { (meaning_of : C → Meaning) (marks also : List Bool) (passages others : List (Passage C))
         (old other new after : State C)
@@ -259,21 +259,22 @@ pub fn what_has_no_effect_can_be_left_out<C>()
     strangers_change_nothing::<C>();
 }
 
-/// Packets are answered as they are without strangers (RFC 4301, section 4.4; RFC 4303, section 3.4). Take two
-/// runs of gateways of one policy, whose tables hold the same; of IKE and of the time they may hold anything.
-/// Both are given the same packets in the same order: ESP packets, packets on their way out, and what comes in
-/// unprotected. Each of them is given others between them, or none, and each of those others
+/// Packets are answered as they are without strangers (RFC 4301, section 4.4; RFC 4303, section 3.4). Take
+/// two runs of gateways of one policy, whose tables hold the same; of IKE and of the time they may hold
+/// anything. Both are given the same packets in the same order: ESP packets, packets on their way out, and
+/// what comes in unprotected. Each of them is given others between them, or none, and each of those others
 ///
 /// - counts for no IKE SA and is accepted by no pair: a request of IKE_SA_INIT, the response to an own one, a
 ///   forged datagram, a repeat;
 /// - or leaves what the table holds as it was, as a tick does with which no IKE SA is closed.
 ///
-/// Then each packet that both are given is answered in both runs by the same output, octet for octet, and both
-/// tables hold the same afterwards. So between two changes of the table no half-open IKE SA, however many there
-/// are, and no limit on them changes what becomes of a packet.
+/// Then each packet that both are given is answered in both runs by the same output, octet for octet, and
+/// both tables hold the same afterwards. So between two changes of the table no half-open IKE SA, however
+/// many there are, and no limit on them changes what becomes of a packet.
 ///
-/// No packet that both are given is refused for memory. Not said: the same where an IKE SA's message changes the
-/// table, such as IKE_AUTH by whoever made a key exchange; or of pairs that aren't made as a limit is reached.
+/// No packet that both are given is refused for memory. Not said: the same where an IKE SA's message changes
+/// the table, such as IKE_AUTH by whoever made a key exchange; or of pairs that aren't made as a limit is
+/// reached.
 pub fn packets_go_as_without_strangers<C>()
     ensures { (meaning_of : C → Meaning) (marks also : List Bool) (passages others : List (Passage C))
         (old other new after : State C)
@@ -313,8 +314,8 @@ pub fn an_association_is_closed_by_its_peer<C>()
         → IsClosedByItsPeer config caller from fresh }
 {}
 
-/// The premises of [`what_has_no_effect_can_be_left_out`] are met by the same gateway: the stranger's datagram is
-/// left out, and the peer's own brings the IKE SA to its end as it does with it.
+/// The premises of [`what_has_no_effect_can_be_left_out`] are met by the same gateway: the stranger's
+/// datagram is left out, and the peer's own brings the IKE SA to its end as it does with it.
 pub fn a_stranger_is_left_out_of_a_worked_run<C>()
     ensures { (config : Config) (caller : C) (from : Octets) (fresh : Fresh) → IsConfig config
         → CanLeaveAStrangerOut config caller from fresh }

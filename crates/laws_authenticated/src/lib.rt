@@ -13,17 +13,18 @@
 //!   nothing, but for IKE SAs that are just beginning.
 //! - [`laws::what_has_no_effect_can_be_left_out`]: of two runs that are given the same but for strange and
 //!   refused inputs, all else is answered alike.
-//! - [`laws::packets_go_as_without_strangers`]: so are packets, whatever IKE SAs strangers begin between them.
+//! - [`laws::packets_go_as_without_strangers`]: so are packets, whatever IKE SAs strangers begin between
+//!   them.
 //! - [`laws::a_stranger_is_met_by_a_worked_gateway`], [`laws::an_association_is_closed_by_its_peer`],
 //!   [`laws::a_stranger_is_left_out_of_a_worked_run`]: a worked gateway that holds an IKE SA stays as it was
 //!   where a stranger asks to delete that, and closes it where the peer does, with the stranger or without.
 //!
-//! Who is established over a list `gateway::run` says. Here the steps of [`ike`] are joined: of which IKE
-//! SA a Child SA is made, and whose peer proves itself. `proofs/EndingLemmas` goes through what a message
-//! does, to show that an IKE SA which it closes takes its pairs along; of a tick [`moments`] says so.
-//! `StepLemmas` says of one step where each pair comes from, `CarryingLemmas` follows that over a list, and
-//! `InsideLemmas` what is asked for. `ClosingLemmas` follows an IKE SA that is closed or gone. `LeavingLemmas`
-//! goes along two runs at once, by the law that a step has one result; `EffectLemmas` says of which part.
+//! Who is established over a list `gateway::run` says. Here the steps of [`ike`] are joined: of which IKE SA
+//! a Child SA is made, and whose peer proves itself. `proofs/EndingLemmas` goes through what a message does,
+//! to show that an IKE SA which it closes takes its pairs along; of a tick [`moments`] says so. `StepLemmas`
+//! says of one step where each pair comes from, `CarryingLemmas` follows that over a list, and `InsideLemmas`
+//! what is asked for. `ClosingLemmas` follows an IKE SA that is closed or gone. `LeavingLemmas` goes along
+//! two runs at once, by the law that a step has one result; `EffectLemmas` says of which part.
 #![tactic(auto)]
 
 pub mod laws;

@@ -15,16 +15,16 @@ ghost use Rattle.laws_origin.specs.Origin.{IsUnforgedUpTo};
 use gateway::laws::{both_ends_keep_their_promises, new_worlds_are_wholly_sound};
 use suite::{Agreement, Proof, Sealer};
 
-/// What goes up had been sealed before it came (RFC 4301, sections 5.1 and 5.2; RFC 4303, sections 3.3 and 3.4).
-/// Over every history of a world of two gateways: where a Child SA delivers a packet, the other end had sent an
-/// ESP packet that carries it, octet for octet, before this step. It was sealed by the other end's pair of this
-/// Child SA, and that end's policy protects it.
+/// What goes up had been sealed before it came (RFC 4301, sections 5.1 and 5.2; RFC 4303, sections 3.3 and
+/// 3.4). Over every history of a world of two gateways: where a Child SA delivers a packet, the other end had
+/// sent an ESP packet that carries it, octet for octet, before this step. It was sealed by the other end's
+/// pair of this Child SA, and that end's policy protects it.
 ///
 /// It asks that the world was wholly sound under the Child SA's keys before the history (`sound`), as every
 /// world of two new gateways is (`begun`). And it asks of the history up to this step
-/// ([`IsUnforgedUpTo`](specs::Origin)): what came under these keys, and what was accepted of the Child SA, the
-/// other end had sent before; neither end came to these keys twice; and no other Child SA of the other end
-/// sends under its SPI and key.
+/// (`IsUnforgedUpTo`): what came under these keys, and what was accepted of the Child SA,
+/// the other end had sent before; neither end came to these keys twice; and no other Child SA of the other
+/// end sends under its SPI and key.
 pub fn what_goes_up_had_been_sealed<C: Sealer + Agreement + Proof>()
     ensures sound { (keys : KeyRecord) (child : Child) (old new : WorldState C) (happenings : List (Happening C))
         (place number : ℕ) (packet : Octets) (h : Happening C)

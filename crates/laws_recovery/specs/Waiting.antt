@@ -1,5 +1,5 @@
--- A request that waits for its answer, and what a time brings of it (RFC 7296 sections 2.1 and 2.4). Times are
--- in milliseconds.
+-- A request that waits for its answer, and what a time brings of it (RFC 7296 sections 2.1 and 2.4). Times
+-- are in milliseconds.
 use Rattle.std.specs.Prelude.{◌≡◌, ◌==◌, ◌+◌, ◌&&◌, ◌∷◌, ℕ, Bool, false, List, [], Contains, max, if◌then◌else◌}
 use Rattle.std.specs.List.{list_any, AllByRecursion}
 use Rattle.requests.specs.Timers.{IsDue}

@@ -15,12 +15,12 @@ ghost use Rattle.laws_recovery.specs.Waiting.{WaitsBefore, WaitsThroughout, sent
 
 use ike::laws::what_is_due_comes_in_time;
 
-/// A request that waits for its answer goes out again when it is due (RFC 7296, sections 2.1 and 2.4). This is
-/// of every step of every history of a gateway (as `gateway::run` tells it) at which it is told a time.
+/// A request that waits for its answer goes out again when it is due (RFC 7296, sections 2.1 and 2.4). This
+/// is of every step of every history of a gateway (as `gateway::run` tells it) at which it is told a time.
 ///
 /// - `again`: where the request is due it goes out again, the same octets, and waits on from then. Or its IKE
-///   SA is closed at this step, since the peer is gone: a request of it, that one or another, went out for the
-///   last time and found no answer in time.
+///   SA is closed at this step, since the peer is gone: a request of it, that one or another, went out for
+///   the last time and found no answer in time.
 /// - `later`: where it isn't due yet it waits on as it did, unless its IKE SA is closed so.
 /// - `over`: where it went out for the last time and found no answer, its IKE SA is closed.
 /// - `refused`: where there is no memory for what comes, it waits on as it did. So with the next time that is
@@ -57,8 +57,8 @@ pub fn what_waits_goes_out_again<C>()
 ///
 /// - `counted`: it has the octets with which it went out first, and counts as sent again as often as it went
 ///   out again.
-/// - `six`: where it counts as sent for the last time and no answer came in time, so that its IKE SA is closed
-///   for it with the next moment that is told, it went out again five times.
+/// - `six`: where it counts as sent for the last time and no answer came in time, so that its IKE SA is
+///   closed for it with the next moment that is told, it went out again five times.
 ///
 /// A request of IKE_SA_INIT is left out, since a cookie begins its count anew.
 pub fn a_request_goes_out_six_times<C>()
