@@ -60,6 +60,7 @@ use Rattle.gateway.proofs.PartyLemmas.{none_some, none_there, some_is}
 use Rattle.gateway.proofs.SoundWorldLemmas.{event_later, still_sent, trail_later, world_told}
 use Rattle.gateway.proofs.WorldHistoryLemmas.{trail_at}
 use Rattle.gateway.proofs.WorldLemmas.{later_same}
+use Rattle.gateway.proofs.OriginLemmas.{sealed_before}
 
 -- ---- what is stored later
 
@@ -493,4 +494,8 @@ keeps_both_ends {C} meaning_of body_of plain_of law count events old before outp
       happenings = told.happenings;
       history = told.history;
       each = λ others history. law others old new history.trail;
+      origin = λ others history. record {
+        each = λ keys child place number packet h sound there unforged end said.
+            sealed_before body_of plain_of meaning_of law keys child old new others place number packet h history.trail sound there unforged end said;
+      };
     }

@@ -1,16 +1,14 @@
 -- Outbound packets that are laid first, and get their ICVs afterwards.
-use Rattle.std.proofs.Common.{◌≡◌, ◌≢◌, ◌+◌, ◌-◌, ◌<◌, ◌≤◌, ◌++◌, ℕ, zero, suc, List, [], ◌∷◌, length, map, take, drop, get_or, refl, sym, ap, ◌∙◌, subst, arith, inl, inr, append_assoc, Option, Some, None, length-append, length-drop}
-use Rattle.std.specs.Prelude.{IfSome, replicate}
-use Rattle.std.proofs.lemmas.Bool.{cases_lt}
+use Rattle.std.proofs.Common.{◌≡◌, ◌+◌, ◌-◌, ◌<◌, ◌≤◌, ◌++◌, ℕ, List, [], ◌∷◌, length, take, drop, get_or, refl, sym, ap, ◌∙◌, subst, arith, append_assoc, Option, Some, None}
+use Rattle.std.specs.Prelude.{IfSome}
 use Rattle.std.proofs.lemmas.List.{append-nil, drop_all, drop_at, drop_more, length-map, length-take-le, map-append, take-append-drop, take_all, take_at, take_more, take_more_set, take_rest, take-set, drop-drop, drop-set-lt, length-set}
 use Rattle.std.proofs.lemmas.Option.{slice_get-get_or}
 use Rattle.std.proofs.Math.ListN.{set}
 use borrow.Rule.Slice.PartMut.{put_mid}
 use Rattle.esp.proofs.FinishLemmas.{lent_behind}
 use Rattle.base.specs.Octets.{Octets}
-use Rattle.esp.specs.Precomputed.{ArePrecomputed, AreQuestions, IsPrecomputed, IsQuestion}
+use Rattle.esp.specs.Precomputed.{ArePrecomputed, IsPrecomputed}
 use Rattle.esp.specs.declared.precomputed.Precomputed.{Precomputed}
-use Rattle.esp.specs.declared.precomputed.Question.{Question}
 use Rattle.sadb.specs.Database.{Database, PairMap}
 use Rattle.sadb.specs.Laying.{KeepsSenders, finished_at, finished_by, sender_at}
 use Rattle.traffic.specs.Laying.{finished_outcome}

@@ -35,3 +35,17 @@ mod CarryLemmas
 mod WindowLemmas
 mod WindowWorldLemmas
 mod NextLemmas
+pub mod EndingLemmas
+pub mod TellingLemmas
+pub mod TickLemmas
+pub mod StandingLemmas
+pub mod StoodLemmas
+pub mod CarryingLemmas
+pub mod StrangerLemmas
+pub mod KeylessLemmas
+pub mod InsideLemmas
+pub mod InsideRunLemmas
+pub mod ClosingLemmas
+mod KnownLemmas
+mod FrontLemmas
+mod OriginLemmas

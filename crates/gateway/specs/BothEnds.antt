@@ -8,10 +8,11 @@ use Rattle.suite.specs.declared.keys.Keys.{Keys}
 use Rattle.association.specs.Receiving.{Opening}
 use Rattle.effects.specs.Taking.{Meaning}
 use Rattle.gateway.specs.Inputs.{Event}
+use Rattle.gateway.specs.Origin.{IsUnforgedUpTo}
 use Rattle.gateway.specs.Outputs.{Up}
 use Rattle.gateway.specs.WorldChildren.{AccountsForChildren, ChildrenMirror}
 use Rattle.gateway.specs.WorldHistories.{Happening, IsWorldHistory}
-use Rattle.gateway.specs.WorldPackets.{AccountsForPairs, HandsUpWhatWasSealed, HasOneSender, HasStored, IsUnforgedTo, PairsMirror}
+use Rattle.gateway.specs.WorldPackets.{AccountsForPairs, HandsUpWhatWasSealed, HasOneSender, HasStored, IsUnforgedTo, PairsMirror, WasSealedByOther}
 use Rattle.gateway.specs.WorldParties.{IsNeverMadeTwice, IsSoundUnder}
 use Rattle.gateway.specs.WorldPromises.{IsUnforged}
 use Rattle.gateway.specs.WorldWindows.{AccountsForWindows, WindowsFit}
@@ -54,6 +55,14 @@ pub record PromisesOfBothEnds {C : Type 0} (body_of : Keys → Octets → Octets
   pub once : (place other serial number : ℕ) (one two : Octets) (h g : Happening C) → slice_get happenings place ≡ Some h → slice_get happenings other ≡ Some g
       → h.event.end ≡ g.event.end → h.said ≡ Up serial number one → g.said ≡ Up serial number two → place ≡ other
 
+-- Over these events: where a Child SA delivers a packet, the other end had sent an ESP packet that carries it,
+-- octet for octet, before this step. It was sealed by the other end's pair of this Child SA, and that end's
+-- policy protects it. It asks that the world was wholly sound under the child's keys before the list, as a
+-- world of two new gateways is, and that nothing was forged up to this step.
+pub record WhatGoesUpHadBeenSealed {C : Type 0} (body_of : Keys → Octets → Octets → Octets → Octets) (plain_of : Opening) (meaning_of : C → Meaning) (happenings : List (Happening C)) (old : WorldState C) : Type 0 where
+  pub each : (keys : KeyRecord) (child : Child) (place number : ℕ) (packet : Octets) (h : Happening C) → IsWhollySound body_of plain_of keys old → slice_get happenings place ≡ Some h
+      → IsUnforgedUpTo meaning_of keys child happenings place h → h.event.end ≡ child.end → h.said ≡ Up child.serial number packet → WasSealedByOther child number packet h h.before
+
 -- Some number of events took place, the first ones, as many as there are outputs. They have a history, and
 -- the promises hold of every history of them.
 pub record KeepsBothEnds {C : Type 0} (body_of : Keys → Octets → Octets → Octets → Octets) (plain_of : Opening) (meaning_of : C → Meaning) (events : List Event) (old : WorldState C) (before : List Output) (new : WorldState C) (after : List Output) : Type 0 where
@@ -63,3 +72,4 @@ pub record KeepsBothEnds {C : Type 0} (body_of : Keys → Octets → Octets → 
   pub happenings : List (Happening C)
   pub history : IsWorldHistory meaning_of (take count events) outputs old new happenings
   pub each : (others : List (Happening C)) → IsWorldHistory meaning_of (take count events) outputs old new others → PromisesOfBothEnds body_of plain_of meaning_of others old new
+  pub origin : (others : List (Happening C)) → IsWorldHistory meaning_of (take count events) outputs old new others → WhatGoesUpHadBeenSealed body_of plain_of meaning_of others old

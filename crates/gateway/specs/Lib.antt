@@ -36,3 +36,8 @@ pub mod LawsOfOutputs
 pub mod LawsOfRuns
 pub mod LawsOfWorlds
 pub mod LawsOfBothEnds
+pub mod Carrying
+pub mod Closing
+pub mod Inside
+pub mod Strangers
+pub mod Origin

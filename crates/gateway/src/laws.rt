@@ -25,7 +25,8 @@ pub use steps::{
     the_next_moment_brings_something, what_is_quiet_changes_nothing,
 };
 pub use together::{
-    both_ends_keep_their_promises, new_worlds_are_wholly_sound, windows_are_those_told,
+    both_ends_keep_their_promises, new_worlds_are_wholly_sound, what_goes_up_had_been_sealed,
+    windows_are_those_told,
 };
 pub use worlds::{
     each_end_has_its_events, ends_of_a_sound_world_agree, every_world_stays_sound,

@@ -222,13 +222,19 @@
 //!   is carried back;
 //! - who is established (`AuthenticationLemmas`), by induction on the place: each step keeps the keys, or
 //!   its datagram proves the peer;
+//! - for whom packets are carried (`KnownLemmas`): `EndingLemmas` shows of a message, and [`moments`] says of
+//!   a tick, that an IKE SA which is closed takes its pairs along. `StandingLemmas` says of one step where
+//!   each pair comes from, `CarryingLemmas` follows that over a list, `InsideLemmas` what is asked for, and
+//!   `ClosingLemmas` an IKE SA that is closed or gone;
+//! - what strangers change (`StrangerLemmas`, `KeylessLemmas`), by the way a datagram is taken;
 //! - what is refused changes nothing but spare capacity (`LawLemmas`).
 //!
 //! Of two gateways, a step is a turn of its party in [`lockstep`] (`TurnLemmas`), and by induction on the
 //! events both parties stay sound (`SoundWorldLemmas`). Windows, Child SAs and pairs have invariants of their
 //! own, kept event by event (`WindowWorldLemmas`, `ChildLemmas`, `PairLemmas`). `CarryLemmas` joins these,
 //! with `MirrorLemmas` and what [`traffic`] says of mirrored pairs. `World` reserves all memory before a
-//! step (`FittingLemmas`), so nothing that was sent is lost. The files `Worked..` show that the assumptions
+//! step (`FittingLemmas`), so nothing that was sent is lost. That what goes up had been sealed before it came
+//! is the promise of the list up to that step (`OriginLemmas`). The files `Worked..` show that the assumptions
 //! can be met.
 #![tactic(auto)]
 

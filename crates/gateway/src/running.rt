@@ -40,6 +40,13 @@ use suite::{Agreement, Proof, Sealer};
 /// - No other ESP packet delivers anything.
 /// - Each IKE SA that is established after an input was so before the list, or its peer proved itself by
 ///   one of these inputs, under the same keys.
+/// - Each SA pair, and each ESP packet that is accepted or sealed, is of an IKE SA that is established then:
+///   since before the list, or since its peer proved itself by one of these inputs. Its Child SA was made
+///   under the same keys. Once that IKE SA is closed nothing more is carried for it. This asks that each pair
+///   is of an established IKE SA before the list, as in a new gateway, and leaves it so.
+/// - All selectors lie inside one entry that protects, if they do so before the list.
+/// - What comes in and passes no check under keys that are held changes nothing, but for IKE SAs that are
+///   just beginning.
 /// - An input that is refused on allocation failure counts as lost.
 pub fn run<'a, C: Sealer + Agreement + Proof>(
     alloc: Global,

@@ -19,7 +19,7 @@ use Rattle.gateway.specs.Outputs.{OutputView}
 use Rattle.gateway.specs.States.{State}
 use Rattle.gateway.specs.Steps.{Steps}
 use Rattle.laws_authenticated.specs.LeavingOut.{ChangesNothing, GivesPacket, HasMemory, IsPacket, IsRightlyGiven, IsUncounted, IsWithoutEffect, KeepsTable, LeavesTable}
-use Rattle.laws_authenticated.specs.Strangers.{AddsAtMostAHalfOpen, ChangesAtMostOneWaiting, CountsForOne, IsAsItWas, IsStrange}
+use Rattle.gateway.specs.Strangers.{AddsAtMostAHalfOpen, ChangesAtMostOneWaiting, CountsForOne, IsAsItWas, IsStrange}
 
 -- what is known of steps
 pub record Facts (C : Type 0) : Type 0 where

@@ -1,14 +1,3 @@
-mod EndingLemmas
-mod TellingLemmas
-mod TickLemmas
-mod StepLemmas
-mod PacketLemmas
-mod CarryingLemmas
-mod StrangerLemmas
-mod KeylessLemmas
-mod InsideLemmas
-mod InsideRunLemmas
-mod ClosingLemmas
 mod WorkedStrangerLemmas
 mod WorkedClosingLemmas
 mod LeavingLemmas

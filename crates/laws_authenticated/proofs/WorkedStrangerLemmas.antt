@@ -25,7 +25,7 @@ use Rattle.ike.specs.Receiving.{is_initial_request}
 use Rattle.gateway.specs.Histories.{IsPassage}
 use Rattle.gateway.specs.WorkedRequests.{first_taken, worked_association, worked_meaning}
 use Rattle.gateway.proofs.WorkedRequestLemmas.{asked, asked_spelled, can_be, fine_before, fresh_two, sound_state}
-use Rattle.laws_authenticated.specs.Strangers.{CountsForOne, IsStrangeDatagram}
+use Rattle.gateway.specs.Strangers.{CountsForOne, IsStrangeDatagram}
 use Rattle.laws_authenticated.specs.WorkedStrangers.{clear_deletion, deletion, deletion_comes, IsMetByAStranger}
 
 -- what is known of messages

@@ -13,7 +13,7 @@ use Rattle.gateway.specs.Outputs.{wants_memory, OutputView}
 use Rattle.gateway.specs.Outputs as output
 use Rattle.gateway.specs.States.{State}
 use Rattle.gateway.specs.declared.fault.Reason.{Reason}
-use Rattle.laws_authenticated.specs.Strangers.{CountsForOne, IsStrange}
+use Rattle.gateway.specs.Strangers.{CountsForOne, IsStrange}
 
 -- What stays of a list: a mark for each place says by true what is left out. Behind the marks all stays.
 abbrev pub without : {X : Type 0} → List Bool → List X → List X

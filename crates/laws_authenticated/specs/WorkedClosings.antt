@@ -16,9 +16,9 @@ use Rattle.gateway.specs.Histories.{IsTrail, Passage}
 use Rattle.gateway.specs.Inputs as input
 use Rattle.gateway.specs.Outputs.{Reply}
 use Rattle.gateway.specs.WorkedRequests.{first_taken, gateway_with, one_more_taken, worked_association, worked_keys, worked_meaning, worked_reply}
-use Rattle.laws_authenticated.specs.Carrying.{EachPairIsOfAnEstablished}
+use Rattle.gateway.specs.Carrying.{EachPairIsOfAnEstablished}
 use Rattle.laws_authenticated.specs.LeavingOut.{AreGivenAlike, EachLeftOut, IsRightlyGiven, IsWithoutEffect}
-use Rattle.laws_authenticated.specs.Closing.{IsOverBy}
+use Rattle.gateway.specs.Closing.{IsOverBy}
 use Rattle.laws_authenticated.specs.WorkedStrangers.{deletion, deletion_comes}
 
 -- a Delete payload of the IKE SA (RFC 7296 section 3.11)

@@ -18,7 +18,7 @@ use Rattle.gateway.specs.Inputs as input
 use Rattle.gateway.specs.Outputs.{Dropped}
 use Rattle.gateway.specs.WorkedRequests.{first_taken, gateway_with, worked_association, worked_keys, worked_meaning, worked_request, CanBeMeant}
 use Rattle.gateway.specs.declared.fault.Reason.TheVariants.{Ike}
-use Rattle.laws_authenticated.specs.Strangers.{CountsForOne, IsAsItWas, IsStrange}
+use Rattle.gateway.specs.Strangers.{CountsForOne, IsAsItWas, IsStrange}
 
 -- INFORMATIONAL with Message ID 2 and a Delete payload of the IKE SA, which isn't encrypted. In order: the
 -- SPIs of the IKE SA that is held; next payload Delete, version 2.0, the exchange, flag I, the Message ID, the

@@ -17,11 +17,11 @@ ghost use Rattle.gateway.specs.Worlds.{WorldState, gateway_at};
 ghost use Rattle.gateway.specs.declared.world.stored.End.{End};
 ghost use Rattle.gateway.specs.States.{State, new_gateway};
 ghost use Rattle.gateway.specs.declared.output.Output.{Output};
-ghost use Rattle.laws_authenticated.specs.Carrying.{EachPairIsOfAnEstablished, KeepsSettings, OnlyTheKnownCarry, OnlyTheProvedCarry, SealsWhatIsProtected};
-ghost use Rattle.laws_authenticated.specs.Closing.{IsOverBy, NothingIsCarriedAfter};
-ghost use Rattle.laws_authenticated.specs.Inside.{LiesInside};
+ghost use Rattle.gateway.specs.Carrying.{EachPairIsOfAnEstablished, KeepsSettings, OnlyTheKnownCarry, OnlyTheProvedCarry, SealsWhatIsProtected};
+ghost use Rattle.gateway.specs.Closing.{IsOverBy, NothingIsCarriedAfter};
+ghost use Rattle.gateway.specs.Inside.{LiesInside};
 ghost use Rattle.laws_authenticated.specs.LeavingOut.{AreAnsweredAlike, AreGivenAlike, EachLeftOut, GivesPacket, IsRightlyGiven, IsWithoutEffect, LeavesTable};
-ghost use Rattle.laws_authenticated.specs.Strangers.{AddsAtMostAHalfOpen, ChangesAtMostOneWaiting, CountsForOne, IsAsItWas, IsStrange};
+ghost use Rattle.gateway.specs.Strangers.{AddsAtMostAHalfOpen, ChangesAtMostOneWaiting, CountsForOne, IsAsItWas, IsStrange};
 ghost use Rattle.laws_authenticated.specs.WorkedClosings.{CanLeaveAStrangerOut, IsClosedByItsPeer};
 ghost use Rattle.laws_authenticated.specs.WorkedStrangers.{IsMetByAStranger};
 

@@ -19,12 +19,9 @@
 //!   [`laws::a_stranger_is_left_out_of_a_worked_run`]: a worked gateway that holds an IKE SA stays as it was
 //!   where a stranger asks to delete that, and closes it where the peer does, with the stranger or without.
 //!
-//! Who is established over a list `gateway::run` says. Here the steps of [`ike`] are joined: of which IKE SA
-//! a Child SA is made, and whose peer proves itself. `proofs/EndingLemmas` goes through what a message does,
-//! to show that an IKE SA which it closes takes its pairs along; of a tick [`moments`] says so. `StepLemmas`
-//! says of one step where each pair comes from, `CarryingLemmas` follows that over a list, and `InsideLemmas`
-//! what is asked for. `ClosingLemmas` follows an IKE SA that is closed or gone. `LeavingLemmas` goes along
-//! two runs at once, by the law that a step has one result; `EffectLemmas` says of which part.
+//! What the first five say of a list `gateway::run` promises, and their lemmas stand in [`gateway`]. Here
+//! they are said of single steps too, and of either end of a world. `proofs/LeavingLemmas` goes along two runs
+//! at once, by the law that a step has one result; `EffectLemmas` says of which part.
 #![tactic(auto)]
 
 pub mod laws;

@@ -2,14 +2,16 @@
 ghost use Rattle.gateway.specs.LawsOfRuns.{CallsInARowAreOneRun, CallsInARowKeepTheirPromises, EveryRunKeepsItsPromises, HistoriesInARowAreOneHistory, RunsInARowAreOneRun, TheEstablishedOfNewGatewaysProvedThemselves, ThePremisesOfPacketsAreMet, ThePremisesOfRequestsAreMet};
 
 use crate::laws::refusals_change_nothing;
+use association::laws::receptions_say_why;
 use deliveries::laws::{
     every_list_of_packets_is_judged, numbers_are_determined, other_changes_leave_windows,
     premises_are_met,
 };
 use ike::laws::one_association_is_changed;
-use moments::laws::some_are_held_on;
+use moments::laws::{pairs_go_with_their_associations, some_are_held_on, what_is_held_was_held};
 use requests::laws::later_incoming_follow;
 use traffic::laws::a_packet_takes_one_number;
+use wire::laws::octets_spell_one_message;
 
 /// Every run keeps all promises of a run, over however many inputs.
 ///
@@ -22,7 +24,9 @@ use traffic::laws::a_packet_takes_one_number;
 ///
 /// Each IKE SA that is established after a step was so before the run, or its peer proved itself at a
 /// step of it: by a datagram that opened under its keys, to what the caller's check accepts (RFC 7296,
-/// section 2.15).
+/// section 2.15). Each SA pair, and each ESP packet that is accepted or sealed, is of a Child SA that such an
+/// IKE SA made, inside the policy; once that one is closed nothing more is carried for it. What passes no
+/// check under keys changes nothing, but for IKE SAs that are just beginning.
 pub fn every_run_keeps_its_promises<C>()
     ensures { EveryRunKeepsItsPromises C }
 {
@@ -33,6 +37,15 @@ pub fn every_run_keeps_its_promises<C>()
     ike::laws::traces_name_what_is_held();
     ike::laws::what_is_due_comes_in_time();
     ike::laws::what_is_quiet_changes_nothing();
+    ike::laws::steps_keep_their_laws();
+    ike::laws::children_are_made_of_their_messages();
+    effects::laws::children_are_made_of_their_messages();
+    effects::laws::associations_stay_themselves();
+    receptions_say_why();
+    octets_spell_one_message();
+    pairs_go_with_their_associations();
+    what_is_held_was_held();
+    traffic::laws::later_tables_follow();
     later_incoming_follow();
     refusals_change_nothing::<C>();
     one_association_is_changed();

@@ -46,7 +46,8 @@ use suite::{Agreement, Proof, Sealer};
 ///   end's pair of the child sealed that packet under the same number, its policy protects it outward, and
 ///   that pair covers it. This assumes that no packet to the child was forged, and that the other end had
 ///   no other child that sends under its inbound SPI and key;
-/// - no number of a child delivers twice (RFC 4301, section 4.1; RFC 4303, section 3.4).
+/// - no number of a child delivers twice (RFC 4301, section 4.1; RFC 4303, section 3.4);
+/// - what is delivered had been sealed before it came, where nothing was forged up to that step.
 pub fn run_world<'a, C: Sealer + Agreement + Proof>(
     alloc: Global,
     world: &mut World<C>,

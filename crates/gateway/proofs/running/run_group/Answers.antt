@@ -1,4 +1,4 @@
-use Rattle.std.proofs.Common.{rules, ◌≡◌, ◌≤◌, ◌-◌, ℕ, List, [], ◌∷◌, ◌++◌, length, take, drop, map, refl, sym, ap, ◌∙◌, subst, arith, Option, None}
+use Rattle.std.proofs.Common.{rules, ◌≡◌, ◌≤◌, ℕ, List, [], ◌∷◌, ◌++◌, length, take, map, refl, sym, ap, ◌∙◌, subst, arith, Option}
 use Rattle.std.specs.Prelude.{IfSome}
 use Rattle.esp.specs.Precomputed.{ArePrecomputed}
 use Rattle.std.proofs.lemmas.List.{append-nil, length-map}
@@ -8,7 +8,6 @@ use Rattle.gateway.specs.Groups.{packets_in}
 use Rattle.gateway.specs.Inputs.{Input, input_view}
 use Rattle.gateway.specs.Laying.{finished_from}
 use Rattle.gateway.specs.Runs.{Runs, StepsAs}
-use Rattle.gateway.specs.declared.output.Output.{Output}
 use Rattle.gateway.proofs.GroupLemmas.{value_for}
 use Rattle.gateway.proofs.LayingLemmas.{finish_behind, nothing_laid}
 use Rattle.gateway.proofs.RunLemmas.{next_in_image, pushed_after, run_more, take_next_image, within_image}

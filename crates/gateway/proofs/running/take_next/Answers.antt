@@ -1,8 +1,7 @@
-use Rattle.std.proofs.Common.{rules, ◌≡◌, ◌≤◌, ℕ, List, length, sym, ap, ◌∙◌, arith}
+use Rattle.std.proofs.Common.{rules, ◌≡◌, ◌≤◌, length, sym, ap, ◌∙◌, arith}
 use Rattle.effects.specs.Taking.{Meaning}
 use Rattle.gateway.specs.Inputs.{input_view}
 use Rattle.gateway.specs.States.{IsSoundState}
-use Rattle.gateway.specs.declared.output.Output.{Output}
 use Rattle.gateway.proofs.LayingLemmas.{finish_behind, nothing_laid, takes_laid, takes_other}
 use Rattle.gateway.specs.Laying.{finished_from}
 use Rattle.gateway.proofs.running.take_next.Goals.{then-start-len, else-start-len}

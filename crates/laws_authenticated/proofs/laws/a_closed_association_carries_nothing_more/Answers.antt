@@ -1,6 +1,6 @@
 use Rattle.gateway.specs.WorldHistories.{passages_at}
 use Rattle.gateway.specs.Worlds.{gateway_at}
-use Rattle.laws_authenticated.proofs.ClosingLemmas.{new_carries_nothing, nothing_is_carried, SerialFacts}
+use Rattle.gateway.proofs.ClosingLemmas.{new_carries_nothing, nothing_is_carried, SerialFacts}
 use Rattle.laws_authenticated.proofs.laws.a_closed_association_carries_nothing_more.Goals as goal
 
 pub returns : goal.returns

@@ -1,7 +1,7 @@
-use Rattle.laws_authenticated.proofs.InsideLemmas.{InsideFacts}
-use Rattle.laws_authenticated.proofs.InsideRunLemmas.{before_each, begun, ended}
-use Rattle.laws_authenticated.proofs.InsideRunLemmas as lemma
-use Rattle.laws_authenticated.proofs.StepLemmas.{StepFacts}
+use Rattle.gateway.proofs.InsideLemmas.{InsideFacts}
+use Rattle.gateway.proofs.InsideRunLemmas.{before_each, begun, ended}
+use Rattle.gateway.proofs.InsideRunLemmas as lemma
+use Rattle.gateway.proofs.StandingLemmas.{StepFacts}
 use Rattle.laws_authenticated.proofs.laws.children_lie_inside_the_policy.Goals as goal
 
 pub returns : goal.returns

@@ -1,5 +1,5 @@
-use Rattle.laws_authenticated.proofs.CarryingLemmas.{ended, only_the_known, only_the_proved, sealed_is_protected, settings_kept}
-use Rattle.laws_authenticated.proofs.StepLemmas.{StepFacts}
+use Rattle.gateway.proofs.CarryingLemmas.{ended, only_the_known, only_the_proved, sealed_is_protected, settings_kept}
+use Rattle.gateway.proofs.StandingLemmas.{StepFacts}
 use Rattle.laws_authenticated.proofs.laws.only_the_authenticated_carry.Goals as goal
 
 pub returns : goal.returns

@@ -1,5 +1,5 @@
-use Rattle.laws_authenticated.proofs.CarryingLemmas as lemma
-use Rattle.laws_authenticated.proofs.StepLemmas.{StepFacts}
+use Rattle.gateway.proofs.CarryingLemmas as lemma
+use Rattle.gateway.proofs.StandingLemmas.{StepFacts}
 use Rattle.laws_authenticated.proofs.laws.pairs_belong_to_the_established.Goals as goal
 
 pub returns : goal.returns

@@ -1,6 +1,6 @@
-use Rattle.laws_authenticated.proofs.KeylessLemmas.{first_requests_add}
-use Rattle.laws_authenticated.proofs.KeylessLemmas as lemma
-use Rattle.laws_authenticated.proofs.StrangerLemmas.{StrangerFacts}
+use Rattle.gateway.proofs.KeylessLemmas.{first_requests_add}
+use Rattle.gateway.proofs.KeylessLemmas as lemma
+use Rattle.gateway.proofs.StrangerLemmas.{StrangerFacts}
 use Rattle.laws_authenticated.proofs.laws.strangers_change_nothing.Goals as goal
 
 pub returns : goal.returns

@@ -1,5 +1,6 @@
 use Rattle.gateway.proofs.AuthenticationLemmas.{AuthenticationFacts}
 use Rattle.gateway.proofs.DeliveryLemmas.{DeliveryFacts}
+use Rattle.gateway.proofs.KnownLemmas.{KnownFacts}
 use Rattle.gateway.proofs.MomentLemmas.{MomentFacts}
 use Rattle.gateway.proofs.PromiseLemmas.{keeps_promises}
 use Rattle.gateway.proofs.RequestLemmas.{RequestFacts}
@@ -54,4 +55,37 @@ returns g c =
       dummy = c.a_packet_takes_one_number.ensures.dummy;
     } in
     let proved : AuthenticationFacts = record { proved = c.the_established_proved_themselves.ensures; keys = c.traces_name_what_is_held.ensures.keys } in
-    λ meaning_of inputs outputs old new run. keeps_promises facts c.refusals_change_nothing.ensures.refused moments packets proved meaning_of inputs outputs old new run
+    let known : KnownFacts = record {
+      serials = record {
+        steps = record {
+          laws = c.steps_keep_their_laws.ensures;
+          waits = c.children_are_made_of_their_messages.ensures.waits;
+          half_open = c.requests_are_remembered.ensures.half_open;
+          stay = c.traces_name_what_is_held.ensures.keys;
+          held = c.what_is_held_was_held.ensures;
+          go = c.pairs_go_with_their_associations.ensures;
+        };
+        concluded = c.requests_are_remembered.ensures.concluded;
+        begun = c.requests_are_remembered.ensures.begun;
+        given = c.requests_are_remembered.ensures.given;
+        rises = c.requests_are_remembered.ensures.rises;
+        fewer = c.some_are_held_on.ensures.pairs;
+        received = c.later_tables_follow.ensures.received;
+        sent = c.later_tables_follow.ensures.sent;
+      };
+      inside = record {
+        first = c.children_are_made_of_their_messages-2.ensures.asked_first;
+        further = c.children_are_made_of_their_messages-2.ensures.waits_further;
+        ordered = c.children_are_made_of_their_messages-2.ensures.ordered_further;
+        held = c.some_are_held_on.ensures.held;
+      };
+      strangers = record {
+        effective = c.receptions_say_why.ensures.effective;
+        answering = c.receptions_say_why.ensures.answering;
+        initial = c.receptions_say_why.ensures.initial;
+        quiet = c.what_is_quiet_changes_nothing.ensures;
+        itself = c.associations_stay_themselves.ensures;
+      };
+      one = c.octets_spell_one_message.ensures.message;
+    } in
+    λ meaning_of inputs outputs old new run. keeps_promises facts c.refusals_change_nothing.ensures.refused moments packets proved known meaning_of inputs outputs old new run

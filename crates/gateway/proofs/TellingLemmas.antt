@@ -24,7 +24,7 @@ use Rattle.ike.specs.Orders as order
 use Rattle.ike.specs.declared.fault.IkeFault.{IkeFault}
 use Rattle.ike.specs.declared.output.IkeOutput.TheVariants as output
 use Rattle.ike.specs.declared.output.Stepped.{Stepped}
-use Rattle.laws_authenticated.proofs.EndingLemmas.{closes, message_ends, HasNone}
+use Rattle.gateway.proofs.EndingLemmas.{closes, message_ends, HasNone}
 
 -- what a step tells, by what it is
 tells_as : (serial : ℕ) (s t : Stepped) → s ≡ t → TellsClosed serial s.output → TellsClosed serial t.output

@@ -39,10 +39,10 @@ use Rattle.gateway.specs.Outputs.{OutputView}
 use Rattle.gateway.specs.States.{association_in, new_gateway, State}
 use Rattle.gateway.specs.Steps.{DoesInput, SendsPacket, StepsIke}
 use Rattle.gateway.proofs.HistoryLemmas.{at_place, exists, state_at}
-use Rattle.laws_authenticated.specs.Carrying.{EachPairIsOfAnEstablished}
-use Rattle.laws_authenticated.specs.Closing.{HasNothingLeft, IsOver, IsOverBy, NothingIsCarriedAfter, WasOf}
-use Rattle.laws_authenticated.proofs.CarryingLemmas.{begun, only_the_known, passage_goes, stepped, way_of}
-use Rattle.laws_authenticated.proofs.StepLemmas.{established_way, StepFacts}
+use Rattle.gateway.specs.Carrying.{EachPairIsOfAnEstablished}
+use Rattle.gateway.specs.Closing.{HasNothingLeft, IsOver, IsOverBy, NothingIsCarriedAfter, WasOf}
+use Rattle.gateway.proofs.CarryingLemmas.{begun, only_the_known, passage_goes, stepped, way_of}
+use Rattle.gateway.proofs.StandingLemmas.{established_way, StepFacts}
 
 -- what is known of serials, beside what is known of a step
 pub record SerialFacts : Type 0 where

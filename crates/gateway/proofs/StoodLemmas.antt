@@ -18,8 +18,8 @@ use Rattle.traffic.specs.Receiving.{IsUnopened, Receives}
 use Rattle.traffic.specs.Sending.{Protects, Sends}
 use Rattle.traffic.specs.declared.fault.PacketFault.{PacketFault}
 use Rattle.traffic.specs.declared.fault.PacketFault.TheVariants.{UnknownAssociation, Esp, Inner, OutsideSelectors}
-use Rattle.laws_authenticated.specs.Carrying.{KeepsItself}
-use Rattle.laws_authenticated.proofs.StepLemmas.{itself}
+use Rattle.gateway.specs.Carrying.{KeepsItself}
+use Rattle.gateway.proofs.StandingLemmas.{itself}
 
 -- under this serial the same pair stood before
 pub record StoodFor (old : Database) (child : ℕ) (pair : Pair) : Type 0 where

@@ -14,8 +14,8 @@ use Rattle.gateway.specs.Outputs.{OutputView}
 use Rattle.gateway.specs.States.{State}
 use Rattle.gateway.specs.Steps.{DoesInput, StepsIke}
 use Rattle.ike.specs.declared.output.Trace.{Trace}
-use Rattle.laws_authenticated.specs.Strangers.{AddsAtMostAHalfOpen, ChangesAtMostOneWaiting, ChangesOneWaiting, CountsForOne, HoldsOneMore, IsAsItWas, IsStrange}
-use Rattle.laws_authenticated.proofs.StrangerLemmas.{initial_adds, keyless_changes, packet_still, strange_still, Adds, ChangesOneHeld, OneSpelling, StrangerFacts}
+use Rattle.gateway.specs.Strangers.{AddsAtMostAHalfOpen, ChangesAtMostOneWaiting, ChangesOneWaiting, CountsForOne, HoldsOneMore, IsAsItWas, IsStrange}
+use Rattle.gateway.proofs.StrangerLemmas.{initial_adds, keyless_changes, packet_still, strange_still, Adds, ChangesOneHeld, OneSpelling, StrangerFacts}
 
 as_before : (d : Database) → IsAsBefore d d
 as_before d = record { content = refl; room = omega arith }

@@ -1,9 +1,10 @@
 -- What passes no check changes nothing (RFC 7296 sections 1.2, 2.6 and 3.14; RFC 4303 section 3.4.4).
-use Rattle.std.specs.Prelude.{◌≡◌, ◌⊎◌, ℕ, Ok, Some, slice_get, slice_set}
+use Rattle.std.specs.Prelude.{◌≡◌, ◌⊎◌, ℕ, List, Ok, Some, slice_get, slice_set}
 use Rattle.base.specs.Octets.{Octets}
 use Rattle.wire.specs.Messages.{Spells}
 use Rattle.wire.specs.declared.message.Message.{Message}
 use Rattle.exchange.specs.declared.sealed.Plain.{Plain}
+use Rattle.suite.specs.declared.fresh.Fresh.{Fresh}
 use Rattle.esp.specs.Judging.{Judges}
 use Rattle.sadb.specs.Database.{pair_at, Database, IsAsBefore}
 use Rattle.sadb.specs.declared.pair.Pair.{Pair}
@@ -16,6 +17,7 @@ use Rattle.initial.specs.Reading.{IsInitSent}
 use Rattle.effects.specs.Taking.{HasItsEffect, KeepsIdentity, Meaning}
 use Rattle.ike.specs.Machines.{Held, Machine}
 use Rattle.ike.specs.Receiving.{with_next, IsInitialRequest}
+use Rattle.gateway.specs.Histories.{Passage}
 use Rattle.gateway.specs.Inputs.{Input}
 use Rattle.gateway.specs.Inputs as input
 use Rattle.gateway.specs.States.{State}
@@ -107,3 +109,13 @@ pub record ChangesAtMostOneWaiting {C : Type 0} (octets : Octets) (old new : Sta
   pub content : new ≡ record old { machine = new.machine; table = new.table }
   pub machine : (new.machine ≡ old.machine) ⊎ ChangesOneWaiting octets old.machine new.machine
   pub table : IsAsBefore old.table new.table
+
+-- At each of these steps: what is strange leaves the gateway as it was. A request of IKE_SA_INIT adds at
+-- most a half-open IKE SA. Any other datagram that counts for no IKE SA changes at most the one that waits
+-- for the response to its own IKE_SA_INIT.
+pub record StrangersChangeNothing {C : Type 0} (meaning_of : C → Meaning) (passages : List (Passage C)) : Type 0 where
+  pub strange : (place : ℕ) (p : Passage C) → slice_get passages place ≡ Some p → IsStrange (meaning_of p.before.caller) p.before p.given → IsAsItWas p.before p.after
+  pub first : (place : ℕ) (from octets : Octets) (fresh : Fresh) (p : Passage C) → slice_get passages place ≡ Some p → p.given ≡ input.Ike from octets fresh
+      → IsInitialRequest octets → AddsAtMostAHalfOpen p.before p.after
+  pub answer : (place : ℕ) (from octets : Octets) (fresh : Fresh) (p : Passage C) → slice_get passages place ≡ Some p → p.given ≡ input.Ike from octets fresh
+      → ¬ CountsForOne (meaning_of p.before.caller).plain_of p.before.machine.held octets → ¬ IsInitialRequest octets → ChangesAtMostOneWaiting octets p.before p.after

@@ -8,7 +8,7 @@ use Rattle.association.specs.declared.phase.Association.{Association}
 use Rattle.gateway.specs.Histories.{Passage}
 use Rattle.gateway.specs.Packets.{JudgesOne}
 use Rattle.gateway.specs.States.{association_in, State}
-use Rattle.laws_authenticated.specs.Carrying.{child_said}
+use Rattle.gateway.specs.Carrying.{child_said, EachPairIsOfAnEstablished}
 
 -- ---- what it is to be over
 
@@ -68,3 +68,8 @@ pub record NothingIsCarriedAfter {C : Type 0} (passages : List (Passage C)) (pla
   pub said : (later child : ℕ) (p : Passage C) → place < later → slice_get passages later ≡ Some p → child_said p.said ≡ Some child → IsOfAnother serial child p
   pub own : (later child : ℕ) (p : Passage C) → place < later → slice_get passages later ≡ Some p → WasOf passages place serial child → CarriesNothing child p
   pub left : HasNothingLeft new serial
+
+-- Over these steps an IKE SA that is closed carries nothing more, where each SA pair is of an established
+-- IKE SA before the list.
+pub record TheClosedCarryNothing {C : Type 0} (old : State C) (passages : List (Passage C)) (new : State C) : Type 0 where
+  pub after : EachPairIsOfAnEstablished old → (place serial : ℕ) → IsOverBy passages place serial → NothingIsCarriedAfter passages place serial new

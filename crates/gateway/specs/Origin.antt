@@ -1,4 +1,5 @@
--- What is assumed of a history up to a step (RFC 7296 section 3.14; RFC 4303 section 3.4).
+-- What goes up had been sealed before it came, and what is assumed of a history up to that step (RFC 7296
+-- section 3.14; RFC 4301 sections 5.1 and 5.2; RFC 4303 sections 3.3 and 3.4).
 use Rattle.std.specs.Prelude.{◌≡◌, ◌≤◌, ℕ, Bool, Contains, List, Some, slice_get}
 use Rattle.base.specs.Octets.{Octets}
 use Rattle.suite.specs.declared.key_record.KeyRecord.{KeyRecord}

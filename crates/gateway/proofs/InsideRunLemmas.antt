@@ -12,11 +12,11 @@ use Rattle.ike.specs.Steps.{InputView}
 use Rattle.gateway.specs.Histories.{IsPassage, IsTrail, Passage}
 use Rattle.gateway.specs.States.{new_gateway, State}
 use Rattle.gateway.specs.Steps.{StepsIke}
-use Rattle.laws_authenticated.specs.Carrying.{KeepsItself}
-use Rattle.laws_authenticated.specs.Inside.{LiesInside}
-use Rattle.laws_authenticated.proofs.CarryingLemmas.{empty_none, passage_goes, way_of}
-use Rattle.laws_authenticated.proofs.InsideLemmas.{child_inside, step_asks, AllAsk, InsideFacts}
-use Rattle.laws_authenticated.proofs.StepLemmas.{StepFacts}
+use Rattle.gateway.specs.Carrying.{KeepsItself}
+use Rattle.gateway.specs.Inside.{LiesInside}
+use Rattle.gateway.proofs.CarryingLemmas.{empty_none, passage_goes, way_of}
+use Rattle.gateway.proofs.InsideLemmas.{child_inside, step_asks, AllAsk, InsideFacts}
+use Rattle.gateway.proofs.StandingLemmas.{StepFacts}
 
 none_some : {T : Type 0} (x : T) → None ≡ Some x → ⊥
 none_some x e = cc

@@ -43,10 +43,10 @@ use Rattle.ike.specs.Ticking.{TakesMoment}
 use Rattle.ike.specs.Tracing.{NamesChild}
 use Rattle.ike.specs.declared.output.MadeChild.{MadeChild}
 use Rattle.ike.specs.declared.output.Stepped.{Stepped}
-use Rattle.laws_authenticated.specs.Carrying.{KeepsItself}
-use Rattle.laws_authenticated.proofs.EndingLemmas.{HasNone}
-use Rattle.laws_authenticated.proofs.TellingLemmas.{step_tells}
-use Rattle.laws_authenticated.proofs.TickLemmas.{still_established}
+use Rattle.gateway.specs.Carrying.{KeepsItself}
+use Rattle.gateway.proofs.EndingLemmas.{HasNone}
+use Rattle.gateway.proofs.TellingLemmas.{step_tells}
+use Rattle.gateway.proofs.TickLemmas.{still_established}
 
 -- what is known of a step
 pub record StepFacts : Type 0 where

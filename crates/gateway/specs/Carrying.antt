@@ -2,12 +2,14 @@
 -- it (RFC 7296 sections 1.2, 1.3.1 and 2.15; RFC 4301 sections 4.4.2 and 4.4.3).
 use Rattle.std.specs.Prelude.{◌≡◌, ◌<◌, ◌≤◌, ◌⊎◌, ℕ, suc, Some, None, Option, List, slice_get}
 use Rattle.base.specs.Octets.{Octets}
+use Rattle.policy.specs.declared.entry.Entry.{Entry}
 use Rattle.suite.specs.declared.fresh.Fresh.{Fresh}
 use Rattle.suite.specs.declared.key_record.KeyRecord.{KeyRecord}
 use Rattle.sadb.specs.Database.{pair_at}
 use Rattle.sadb.specs.declared.pair.Pair.{Pair}
 use Rattle.traffic.specs.Outcomes as traffic
 use Rattle.traffic.specs.Sending.{IsProtected}
+use Rattle.setup.specs.declared.config.Config.{Config}
 use Rattle.effects.specs.Taking.{Meaning}
 use Rattle.ike.specs.Children.{MakesChildOf}
 use Rattle.ike.specs.Machines.{setup_at}
@@ -18,7 +20,7 @@ use Rattle.gateway.specs.Histories.{Passage}
 use Rattle.gateway.specs.Inputs as input
 use Rattle.gateway.specs.Outputs.{view_of_ike, OutputView, Clear, Counted, Discarded, Done, Dropped, Dummy, Refused, Repeat, Reply, Request, Sealed, Ticked, Up}
 use Rattle.gateway.specs.Packets.{JudgesOne}
-use Rattle.gateway.specs.States.{State}
+use Rattle.gateway.specs.States.{new_gateway, State}
 
 -- the IKE SA with this serial is held, and established
 pub record IsEstablishedNow {C : Type 0} (s : State C) (serial : ℕ) : Type 0 where
@@ -155,3 +157,17 @@ pub record SealsWhatIsProtected {C : Type 0} (child number : ℕ) (octets : Octe
   pub packet : Octets
   pub given : p.given ≡ input.Outward packet
   pub protects : IsProtected p.before.table p.before.entries packet (traffic.Sealed child number octets) p.after.table
+
+-- ---- what is promised of a list
+
+-- Over these steps, from this state on to that one, packets are carried for the authenticated alone. The
+-- first asks that each SA pair is of an established IKE SA before the list, as in a new gateway, and it is
+-- so after it: calls in a row keep it. Of a new gateway each peer proved itself at a step of the list, and
+-- each Child SA was made at one.
+pub record OnlyTheAuthenticatedCarry {C : Type 0} (meaning_of : C → Meaning) (old : State C) (passages : List (Passage C)) (new : State C) : Type 0 where
+  pub known : EachPairIsOfAnEstablished old → OnlyTheKnownCarry meaning_of passages
+  pub stays : EachPairIsOfAnEstablished old → EachPairIsOfAnEstablished new
+  pub proved : (config : Config) (entries : List Entry) (start : ℕ) (caller : C) → old ≡ new_gateway config entries start caller → OnlyTheProvedCarry meaning_of passages
+  pub settings : (place : ℕ) (p : Passage C) → slice_get passages place ≡ Some p → KeepsSettings old p
+  pub sealed : (place child number : ℕ) (octets : Octets) (p : Passage C) → slice_get passages place ≡ Some p → p.said ≡ Sealed child number octets
+      → SealsWhatIsProtected child number octets p

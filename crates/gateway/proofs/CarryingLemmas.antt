@@ -39,9 +39,9 @@ use Rattle.gateway.specs.Requests.{for_ike}
 use Rattle.gateway.specs.States.{new_gateway, State}
 use Rattle.gateway.specs.Steps.{DoesInput, SendsPacket, StepsIke}
 use Rattle.gateway.proofs.HistoryLemmas.{at_place, exists, state_at}
-use Rattle.laws_authenticated.specs.Carrying.{child_said, EachPairIsOfAnEstablished, IsKnownAt, IsOfAKnownPeer, IsOfAProvedPeer, KeepsItself, KeepsSettings, OnlyTheKnownCarry, OnlyTheProvedCarry, SealsWhatIsProtected, StoodFrom, WasMadeBefore, WasThere}
-use Rattle.laws_authenticated.proofs.PacketLemmas.{received_stood, sent_stood, stood_same, AllStood}
-use Rattle.laws_authenticated.proofs.StepLemmas.{established_way, itself, pair_way, ProvesNow, Stands, StepFacts}
+use Rattle.gateway.specs.Carrying.{child_said, EachPairIsOfAnEstablished, IsKnownAt, IsOfAKnownPeer, IsOfAProvedPeer, KeepsItself, KeepsSettings, OnlyTheKnownCarry, OnlyTheProvedCarry, SealsWhatIsProtected, StoodFrom, WasMadeBefore, WasThere}
+use Rattle.gateway.proofs.StoodLemmas.{received_stood, sent_stood, stood_same, AllStood}
+use Rattle.gateway.proofs.StandingLemmas.{established_way, itself, pair_way, ProvesNow, Stands, StepFacts}
 
 none_some : {T : Type 0} (x : T) → None ≡ Some x → ⊥
 none_some x e = cc

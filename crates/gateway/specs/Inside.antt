@@ -12,6 +12,7 @@ use Rattle.association.specs.declared.phase.Request.{Request}
 use Rattle.association.specs.declared.purpose.FurtherChild.{FurtherChild}
 use Rattle.association.specs.declared.purpose.Purpose.TheVariants.{CreateChild}
 use Rattle.effects.specs.Children.{first_asked}
+use Rattle.gateway.specs.Histories.{Passage}
 use Rattle.gateway.specs.States.{State}
 
 -- the selectors of a Child SA that this end asked for lie inside both sides of one entry that protects
@@ -29,3 +30,9 @@ pub record AsksInside (entries : List Entry) (a : Association) : Type 0 where
 pub record LiesInside {C : Type 0} (s : State C) : Type 0 where
   pub asks : (place : ℕ) (a : Association) → slice_get s.machine.held.associations place ≡ Some a → AsksInside s.entries a
   pub pairs : (child : ℕ) (pair : Pair) → pair_at s.table.pairs child ≡ Some pair → LieInsidePolicy s.entries pair.remote pair.local
+
+-- Over these steps all lies inside the policy before each of them and after the list, where it did before
+-- it, as in a new gateway.
+pub record ChildrenStayInside {C : Type 0} (old : State C) (passages : List (Passage C)) (new : State C) : Type 0 where
+  pub each : LiesInside old → (place : ℕ) (p : Passage C) → slice_get passages place ≡ Some p → LiesInside p.before
+  pub last : LiesInside old → LiesInside new

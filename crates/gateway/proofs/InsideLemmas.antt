@@ -59,8 +59,8 @@ use Rattle.ike.specs.Steps.{InputView, Steps}
 use Rattle.ike.specs.Steps as input
 use Rattle.ike.specs.declared.output.MadeChild.{MadeChild}
 use Rattle.ike.specs.declared.output.Stepped.{Stepped}
-use Rattle.laws_authenticated.specs.Inside.{AsksInside, IsAskedInside}
-use Rattle.laws_authenticated.proofs.StrangerLemmas.{sound_adds, Adds}
+use Rattle.gateway.specs.Inside.{AsksInside, IsAskedInside}
+use Rattle.gateway.proofs.StrangerLemmas.{sound_adds, Adds}
 
 -- what is known of a message, of a command and of a tick
 pub record InsideFacts : Type 0 where

@@ -1,7 +1,7 @@
 use Rattle.effects.specs.Taking.{meaning_of}
 use Rattle.gateway.specs.Worlds.{new_world}
-use Rattle.laws_origin.proofs.OriginLemmas.{sealed_before}
-use Rattle.laws_origin.proofs.laws.what_goes_up_had_been_sealed.Goals as goal
+use Rattle.gateway.proofs.OriginLemmas.{sealed_before}
+use Rattle.gateway.proofs.laws.together.what_goes_up_had_been_sealed.Goals as goal
 
 pub returns : goal.returns
 returns g c =

@@ -45,7 +45,7 @@ use Rattle.traffic.specs.Outcomes.{Outcome, Up, Dummy, Sealed, Clear, Discarded,
 use Rattle.traffic.specs.Receiving.{IsUnopened, Receives}
 use Rattle.traffic.specs.declared.fault.PacketFault.{PacketFault}
 use Rattle.traffic.specs.declared.fault.PacketFault.TheVariants.{UnknownAssociation, Esp, Inner, OutsideSelectors}
-use Rattle.laws_authenticated.specs.Strangers.{AnswersInClear, CountsForOne, IsAccepted, IsStrangeDatagram}
+use Rattle.gateway.specs.Strangers.{AnswersInClear, CountsForOne, IsAccepted, IsStrangeDatagram}
 
 -- what is known of what a message is to an IKE SA, and of a step that says nothing
 pub record StrangerFacts : Type 0 where

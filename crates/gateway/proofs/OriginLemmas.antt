@@ -29,8 +29,8 @@ use Rattle.gateway.specs.declared.world.stored.Datagram.{Datagram}
 use Rattle.gateway.specs.declared.world.stored.End.{End}
 use Rattle.gateway.specs.declared.world.stored.End.TheVariants.{A, B}
 use Rattle.gateway.specs.declared.world.stored.Protection.TheVariants as mark
-use Rattle.laws_origin.specs.Origin.{IsUnforgedUpTo}
-use Rattle.laws_origin.proofs.FrontLemmas.{front, front_early, front_last, front_trail, grows_by_it, grows_from, its_step, stored_by_it}
+use Rattle.gateway.specs.Origin.{IsUnforgedUpTo}
+use Rattle.gateway.proofs.FrontLemmas.{front, front_early, front_last, front_trail, grows_by_it, grows_from, its_step, stored_by_it}
 
 -- ---- what a step stores that delivers a packet: nothing
 

@@ -1,2 +1,0 @@
-mod FrontLemmas
-mod OriginLemmas
