@@ -1,7 +1,8 @@
 -- Over a list of events a world accounts for its Child SAs and its pairs, and what is delivered at one end
 -- the other sealed.
 use Rattle.std.proofs.Common.{◌≡◌, ◌≤◌, ◌++◌, ℕ, take, zero, suc, Bool, true, false, List, [], ◌∷◌, Some, Contains, inl, inr, refl, sym, ap, subst, ◌∙◌, arith}
-use Rattle.std.specs.Prelude.{slice_get}
+use Rattle.std.specs.Prelude.{flat_map, length, slice_get}
+use Rattle.std.proofs.Math.Seq.{take-length}
 use Rattle.std.proofs.lemmas.List.Elements.{Contains-append_left}
 use Rattle.base.specs.Octets.{Octets}
 use Rattle.policy.specs.Decisions.{Covers}
@@ -41,7 +42,7 @@ use Rattle.gateway.specs.WorldHistories.{passage_at, passages_at, Happening, IsW
 use Rattle.gateway.specs.WorldPackets.{AccountsForPairs, HasOneSender, HasSentPacket, HasStored, HoldsPairOf, IsJudgedAt, PairsMirror, WasSealedByOther}
 use Rattle.gateway.specs.WorldParties.{HasSent, HoldsUnder, IsNeverMadeTwice, IsSoundUnder}
 use Rattle.gateway.specs.WorldPromises.{IsUnforged, StaysSound}
-use Rattle.gateway.specs.WorldRuns.{HappensAs, IsLater}
+use Rattle.gateway.specs.WorldRuns.{CallsWorldAs, HappensAs, IsLater}
 use Rattle.gateway.specs.WorldWindows.{window_at, AccountsForWindows, WindowsFit}
 use Rattle.gateway.specs.Worlds.{datagram_of, gateway_at, if_at, new_world, other_end, simplex_of, HoldsNothing, Stored, TakesEvent, WorldState}
 use Rattle.gateway.specs.declared.output.Output.{Output}
@@ -57,7 +58,7 @@ use Rattle.gateway.proofs.MoveLemmas.{TurnLaws}
 use Rattle.gateway.proofs.OpenLemmas.{OpenLaws}
 use Rattle.gateway.proofs.PairLemmas.{accounts_after, PairLaws}
 use Rattle.gateway.proofs.PartyLemmas.{none_some, none_there, some_is}
-use Rattle.gateway.proofs.SoundWorldLemmas.{event_later, still_sent, trail_later, world_told}
+use Rattle.gateway.proofs.SoundWorldLemmas.{event_later, still_sent, trail_later, world_calls_joined, world_told}
 use Rattle.gateway.proofs.WorldHistoryLemmas.{trail_at}
 use Rattle.gateway.proofs.WorldLemmas.{later_same}
 use Rattle.gateway.proofs.OriginLemmas.{sealed_before}
@@ -499,3 +500,15 @@ keeps_both_ends {C} meaning_of body_of plain_of law count events old before outp
             sealed_before body_of plain_of meaning_of law keys child old new others place number packet h history.trail sound there unforged end said;
       };
     }
+
+-- ---- calls in a row
+
+pub calls_keep_both_ends : {C : Type 0} (meaning_of : C → Meaning) (body_of : Keys → Octets → Octets → Octets → Octets) (plain_of : Opening)
+    → ((hs : List (Happening C)) (old new : WorldState C) → IsWorldTrail meaning_of old hs new → PromisesOfBothEnds body_of plain_of meaning_of hs old new)
+    → (lists : List (List Event)) (outputs : List (List Output)) (old new : WorldState C) → Runs (CallsWorldAs meaning_of) lists outputs old new
+    → KeepsBothEnds body_of plain_of meaning_of (flat_map (λ (events : List Event). events) lists) old [] new (flat_map (λ (list : List Output). list) outputs)
+calls_keep_both_ends {C} meaning_of body_of plain_of law lists outputs old new calls =
+    let events : List Event = flat_map (λ (es : List Event). es) lists in
+    let said : List Output = flat_map (λ (list : List Output). list) outputs in
+    keeps_both_ends meaning_of body_of plain_of law (length events) events old [] said new said refl
+    (subst (λ (es : List Event). Runs (HappensAs meaning_of) es said old new) (sym (take-length events)) (world_calls_joined meaning_of lists outputs old new calls))

@@ -49,3 +49,6 @@ pub mod ClosingLemmas
 mod KnownLemmas
 mod FrontLemmas
 mod OriginLemmas
+pub mod LeavingLemmas
+pub mod EffectLemmas
+mod AlikeLemmas

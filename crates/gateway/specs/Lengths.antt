@@ -1,4 +1,6 @@
 -- What is asked of an input and of a cipher, so that a step seals in one way alone (RFC 7296 section 3.14).
+use Rattle.std.specs.Prelude.{List}
+use Rattle.std.specs.List.{AllByRecursion}
 use Rattle.effects.specs.Taking.{Meaning}
 use Rattle.ike.specs.Lengths.{IsTold}
 use Rattle.ike.specs.Steps as ike
@@ -15,3 +17,7 @@ IsGiven meaning (input.Probe serial fresh) = IsTold meaning (ike.Order (orders.P
 IsGiven meaning (input.DeleteChild serial fresh) = IsTold meaning (ike.Order (orders.DeleteChild serial) fresh)
 IsGiven meaning (input.DeleteIke serial fresh) = IsTold meaning (ike.Order (orders.DeleteIke serial) fresh)
 IsGiven meaning _ = Unit {0}
+
+-- so it is of each input of a list
+abbrev pub AreGiven : Meaning → List Input → Type 0
+AreGiven meaning inputs = AllByRecursion (IsGiven meaning) inputs

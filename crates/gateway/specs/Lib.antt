@@ -41,3 +41,4 @@ pub mod Closing
 pub mod Inside
 pub mod Strangers
 pub mod Origin
+pub mod LeavingOut

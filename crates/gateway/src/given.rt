@@ -1,10 +1,10 @@
 //! What an input's type and the cipher's law say of what the input leads to.
-ghost use Rattle.std.specs.Prelude.{◌≡◌, length};
+ghost use Rattle.std.specs.Prelude.{◌≡◌, length, map};
 ghost use Rattle.base.specs.Octets.{AreOctets};
 ghost use Rattle.effects.specs.Lengths.{TellsLengths};
 ghost use Rattle.effects.specs.Taking.{meaning_of};
 ghost use Rattle.gateway.specs.Inputs.{input_view};
-ghost use Rattle.gateway.specs.Lengths.{IsGiven};
+ghost use Rattle.gateway.specs.Lengths.{AreGiven, IsGiven};
 
 use crate::Input;
 use exchange::laws::ciphers_tell_lengths;
@@ -25,6 +25,15 @@ pub fn tells_its_lengths<C: Sealer + Agreement + Proof>(caller: &C, input: &Inpu
         | Input::DeleteChild { fresh, .. }
         | Input::DeleteIke { fresh, .. } => seals_at_one_length(caller, &fresh.seal),
         _ => {}
+    }
+}
+
+/// The same of each input of a list. Does nothing.
+pub fn tell_their_lengths<C: Sealer + Agreement + Proof>(caller: &C, inputs: &[Input<'_>])
+    ensures { AreGiven (meaning_of C.Sealer C.Agreement C.Proof caller.now) (map input_view inputs.now) }
+{
+    for input in inputs {
+        tells_its_lengths(caller, input);
     }
 }
 

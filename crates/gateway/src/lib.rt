@@ -227,6 +227,8 @@
 //!   each pair comes from, `CarryingLemmas` follows that over a list, `InsideLemmas` what is asked for, and
 //!   `ClosingLemmas` an IKE SA that is closed or gone;
 //! - what strangers change (`StrangerLemmas`, `KeylessLemmas`), by the way a datagram is taken;
+//! - what can be left out (`AlikeLemmas`): `LeavingLemmas` goes along two runs at once, by the law that a step
+//!   has one result, and `EffectLemmas` says of which part;
 //! - what is refused changes nothing but spare capacity (`LawLemmas`).
 //!
 //! Of two gateways, a step is a turn of its party in [`lockstep`] (`TurnLemmas`), and by induction on the

@@ -11,6 +11,7 @@ ghost use Rattle.sadb.specs.Laying.{KeepsSenders};
 ghost use Rattle.gateway.specs.Groups.{packet_in, packets_in};
 ghost use Rattle.gateway.specs.Inputs.{Outward, input_view};
 ghost use Rattle.gateway.specs.Laying.{finished_output, finished_outputs};
+ghost use Rattle.gateway.specs.Lengths.{AreGiven};
 ghost use Rattle.gateway.specs.Once.{HasOneResult};
 ghost use Rattle.gateway.specs.Outputs.{output_view};
 ghost use Rattle.gateway.specs.States.{new_gateway};
@@ -18,7 +19,7 @@ ghost use Rattle.gateway.specs.Steps.{Steps, Traces};
 ghost use Rattle.effects.specs.Taking.{meaning_of};
 ghost use Rattle.moments.specs.Next.{NothingIsDueBefore, SomethingIsDue};
 
-use crate::given::tells_its_lengths;
+use crate::given::{tell_their_lengths, tells_its_lengths};
 use crate::laws::steps_are_determined;
 use crate::laying::finish_all;
 use crate::stepping::{lay, take};
@@ -180,6 +181,13 @@ impl<C: Sealer + Agreement + Proof> Gateway<C> {
         self.invariants_hold();
         tells_its_lengths(&self.caller, input);
         self.traced_step(alloc, input).output
+    }
+
+    // Shows the prover what the types of inputs say of them. Does nothing.
+    pub(crate) fn tell_their_lengths(&self, inputs: &[Input<'_>])
+        ensures { AreGiven (meaning_of C.Sealer C.Agreement C.Proof self.now.caller) (map input_view inputs.now) }
+    {
+        tell_their_lengths(&self.caller, inputs);
     }
 
     /// One step as [`step`](Gateway::step), that also returns the trace: which message was sent under which

@@ -5,10 +5,11 @@ ghost use Rattle.esp.specs.Precomputed.{IsPrecomputed};
 ghost use Rattle.gateway.specs.Groups.{TakesFirst, packet_in};
 ghost use Rattle.gateway.specs.Inputs.{input_view};
 ghost use Rattle.gateway.specs.Laying.{TakesNext, finished_from};
+ghost use Rattle.gateway.specs.LeavingOut.{HasOneResultWithout};
 ghost use Rattle.gateway.specs.Runs.{RunsFirst, Stops};
 ghost use Rattle.effects.specs.Taking.{meaning_of};
 
-use crate::laws::every_run_keeps_its_promises;
+use crate::laws::{every_run_keeps_its_promises, what_has_no_effect_can_be_left_out};
 use crate::{Gateway, Input, Output, RunFault};
 use esp::{GROUP, Precomputed};
 use std::alloc::Global;
@@ -48,6 +49,8 @@ use suite::{Agreement, Proof, Sealer};
 /// - What comes in and passes no check under keys that are held changes nothing, but for IKE SAs that are
 ///   just beginning.
 /// - An input that is refused on allocation failure counts as lost.
+/// - One list has one result. What is strange, refused or without effect for another reason can be left out
+///   of it: all else is answered the same, and the gateway holds the same afterwards, unless memory runs out.
 pub fn run<'a, C: Sealer + Agreement + Proof>(
     alloc: Global,
     gateway: &mut Gateway<C>,
@@ -61,8 +64,13 @@ pub fn run<'a, C: Sealer + Agreement + Proof>(
         (meaning_of C.Sealer C.Agreement C.Proof)
         (map input_view inputs.now) gateway.old outputs.old.items fault gateway.new outputs.new.items) }
     ensures room { vec_len outputs.old + length inputs.now ≤ vec_capacity outputs.old → IsOk result }
+    ensures determined { HasOneResultWithout
+        (meaning_of C.Sealer C.Agreement C.Proof)
+        (map input_view inputs.now) gateway.old }
 {
     every_run_keeps_its_promises::<C>();
+    what_has_no_effect_can_be_left_out::<C>();
+    gateway.tell_their_lengths(inputs);
     for group in 0..inputs.len().div_ceil(GROUP) {
         let start = GROUP * group;
         let count = (inputs.len() - start).min(GROUP);

@@ -30,7 +30,7 @@ use Rattle.ike.specs.Outputs.{stepped_of}
 use Rattle.gateway.specs.Histories.{IsPassage, Passage}
 use Rattle.gateway.specs.WorkedRequests.{first_taken, one_more_taken, worked_association, worked_keys, worked_meaning, worked_reply}
 use Rattle.gateway.proofs.WorkedRequestLemmas.{answered, fine_before, first_three, fresh_two, none_asked, same_association, sound_state, the_reply}
-use Rattle.laws_authenticated.specs.LeavingOut.{EachLeftOut, IsWithoutEffect}
+use Rattle.gateway.specs.LeavingOut.{EachLeftOut, IsWithoutEffect}
 use Rattle.gateway.specs.Strangers.{IsStrange}
 use Rattle.laws_authenticated.specs.WorkedClosings.{closed_association, deletion_counts, deletion_payload, deletion_under_keys, sealed_deletion, worked_deletions, CanLeaveAStrangerOut, IsClosedByItsPeer}
 use Rattle.laws_authenticated.specs.WorkedStrangers.{deletion_comes}

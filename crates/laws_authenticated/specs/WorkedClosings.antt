@@ -17,7 +17,7 @@ use Rattle.gateway.specs.Inputs as input
 use Rattle.gateway.specs.Outputs.{Reply}
 use Rattle.gateway.specs.WorkedRequests.{first_taken, gateway_with, one_more_taken, worked_association, worked_keys, worked_meaning, worked_reply}
 use Rattle.gateway.specs.Carrying.{EachPairIsOfAnEstablished}
-use Rattle.laws_authenticated.specs.LeavingOut.{AreGivenAlike, EachLeftOut, IsRightlyGiven, IsWithoutEffect}
+use Rattle.gateway.specs.LeavingOut.{AreGivenAlike, EachLeftOut, IsRightlyGiven, IsWithoutEffect}
 use Rattle.gateway.specs.Closing.{IsOverBy}
 use Rattle.laws_authenticated.specs.WorkedStrangers.{deletion, deletion_comes}
 

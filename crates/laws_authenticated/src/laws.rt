@@ -1,16 +1,13 @@
 //! What follows from the definitions alone. No function here does anything.
-ghost use Rattle.std.specs.Prelude.{◌≡◌, ℕ, Bool, List, Some, slice_get};
+ghost use Rattle.std.specs.Prelude.{◌≡◌, ℕ, List, Some, slice_get};
 ghost use Rattle.base.specs.Octets.{Octets};
 ghost use Rattle.suite.specs.declared.fresh.Fresh.{Fresh};
 ghost use Rattle.policy.specs.declared.entry.Entry.{Entry};
-ghost use Rattle.sadb.specs.Contents.{table_content};
 ghost use Rattle.setup.specs.Configs.{IsConfig};
 ghost use Rattle.setup.specs.declared.config.Config.{Config};
 ghost use Rattle.effects.specs.Taking.{Meaning};
-ghost use Rattle.ike.specs.Receiving.{IsInitialRequest};
-ghost use Rattle.gateway.specs.Contents.{state_content};
 ghost use Rattle.gateway.specs.Histories.{IsHistory, IsPassage, Passage};
-ghost use Rattle.gateway.specs.Inputs.{Event, Ike, Input};
+ghost use Rattle.gateway.specs.Inputs.{Event, Input};
 ghost use Rattle.gateway.specs.Outputs.{Sealed};
 ghost use Rattle.gateway.specs.WorldHistories.{Happening, IsWorldHistory, passages_at};
 ghost use Rattle.gateway.specs.Worlds.{WorldState, gateway_at};
@@ -20,20 +17,15 @@ ghost use Rattle.gateway.specs.declared.output.Output.{Output};
 ghost use Rattle.gateway.specs.Carrying.{EachPairIsOfAnEstablished, KeepsSettings, OnlyTheKnownCarry, OnlyTheProvedCarry, SealsWhatIsProtected};
 ghost use Rattle.gateway.specs.Closing.{IsOverBy, NothingIsCarriedAfter};
 ghost use Rattle.gateway.specs.Inside.{LiesInside};
-ghost use Rattle.laws_authenticated.specs.LeavingOut.{AreAnsweredAlike, AreGivenAlike, EachLeftOut, GivesPacket, IsRightlyGiven, IsWithoutEffect, LeavesTable};
-ghost use Rattle.gateway.specs.Strangers.{AddsAtMostAHalfOpen, ChangesAtMostOneWaiting, CountsForOne, IsAsItWas, IsStrange};
 ghost use Rattle.laws_authenticated.specs.WorkedClosings.{CanLeaveAStrangerOut, IsClosedByItsPeer};
 ghost use Rattle.laws_authenticated.specs.WorkedStrangers.{IsMetByAStranger};
 
-use association::laws::receptions_say_why;
-use effects::laws::associations_stay_themselves;
-use gateway::laws::{each_end_has_its_events, refusals_change_nothing, steps_are_determined};
+use gateway::laws::each_end_has_its_events;
 use ike::laws::{
-    children_are_made_of_their_messages, keys_stay_whole, requests_are_remembered,
-    steps_keep_their_laws, traces_name_what_is_held, what_is_quiet_changes_nothing,
+    children_are_made_of_their_messages, requests_are_remembered, steps_keep_their_laws,
+    traces_name_what_is_held,
 };
 use moments::laws::{pairs_go_with_their_associations, some_are_held_on, what_is_held_was_held};
-use sadb::laws::later_tables_are_determined;
 use traffic::laws::later_tables_follow;
 use wire::laws::octets_spell_one_message;
 
@@ -190,108 +182,6 @@ pub fn children_lie_inside_the_policy<C>()
     some_are_held_on();
 }
 
-/// What passes no check changes nothing of a gateway, but for IKE SAs that are just beginning (RFC 7296,
-/// sections 1.2, 2.1 and 2.6; RFC 4303, section 3.4).
-///
-/// - A datagram of IKE *counts* where it opens under the keys of the peer of the IKE SA that it is for, as
-///   a new request in its window or as the response that a request waits for. One that counts for none,
-///   begins no IKE SA and answers no first request of this end leaves the gateway as it was, but for the
-///   table's spare capacity: a forged one, a changed one, a repeat, a reflection. So does an ESP packet
-///   that no pair accepts, and what comes in unprotected (`strange`).
-/// - A request of IKE_SA_INIT makes one half-open IKE SA at most, and changes nothing else (`first`).
-/// - Any other datagram that counts for none changes at most the IKE SA that it is for, which waits for the
-///   response to its own IKE_SA_INIT, and then waits still: whoever sees that request can answer it
-///   (`answer`).
-pub fn strangers_change_nothing<C>()
-    ensures strange { (meaning_of : C → Meaning) (p : Passage C) → IsPassage meaning_of p
-        → IsStrange (meaning_of p.before.caller) p.before p.given
-        → IsAsItWas p.before p.after }
-    ensures first { (meaning_of : C → Meaning) (from octets : Octets) (fresh : Fresh) (p : Passage C)
-        → IsPassage meaning_of p
-        → p.given ≡ Ike from octets fresh
-        → IsInitialRequest octets
-        → AddsAtMostAHalfOpen p.before p.after }
-    ensures answer { (meaning_of : C → Meaning) (from octets : Octets) (fresh : Fresh) (p : Passage C)
-        → IsPassage meaning_of p
-        → p.given ≡ Ike from octets fresh
-        → ¬ CountsForOne (meaning_of p.before.caller).plain_of p.before.machine.held octets
-        → ¬ IsInitialRequest octets
-        → ChangesAtMostOneWaiting octets p.before p.after }
-{
-    receptions_say_why();
-    what_is_quiet_changes_nothing();
-    associations_stay_themselves();
-    octets_spell_one_message();
-}
-
-/// What has no effect can be left out (RFC 7296, sections 2.1 and 2.6; RFC 4303, section 3.4). Take two runs
-/// of gateways that hold the same, spare room apart. Both are given the same inputs, and each of them others
-/// between them, or none. Each of those others
-///
-/// - is strange, as [`strangers_change_nothing`] has it: a datagram that counts for no IKE SA and is no
-///   message of IKE_SA_INIT as below, an ESP packet that no pair accepts, or what comes in unprotected;
-/// - or is answered by `Refused`, for memory or for any other reason: so the run after a refusal is the run
-///   without that input;
-/// - or leaves what the gateway holds as it was, as a datagram that is dropped does.
-///
-/// Then what both are given is answered in both runs by the same outputs, octet for octet, and both gateways
-/// hold the same afterwards. What is left out may have had an answer of its own, as a retransmission has.
-///
-/// Both are given the same fresh octets and times, and no input of theirs is refused for memory. Datagrams
-/// are of octets, and the cipher's lengths follow its law, which always holds. Strange is what fails a check,
-/// and not who sends it: that nobody without keys passes one is no part of this.
-///
-/// Not said: the same of requests of IKE_SA_INIT, each of which may make a half-open IKE SA and take a
-/// serial, and of the response to an own one.
-pub fn what_has_no_effect_can_be_left_out<C>()
-    ensures { (meaning_of : C → Meaning) (marks also : List Bool) (passages others : List (Passage C))
-        (old other new after : State C)
-        → AreGivenAlike meaning_of (IsRightlyGiven meaning_of) marks also passages others old other new after
-        → state_content other ≡ state_content old
-        → EachLeftOut (IsWithoutEffect meaning_of) marks passages
-        → EachLeftOut (IsWithoutEffect meaning_of) also others
-        → AreAnsweredAlike marks also passages others × (state_content after ≡ state_content new) }
-{
-    steps_are_determined::<C>();
-    refusals_change_nothing::<C>();
-    keys_stay_whole();
-    later_tables_are_determined();
-    strangers_change_nothing::<C>();
-}
-
-/// Packets are answered as they are without strangers (RFC 4301, section 4.4; RFC 4303, section 3.4). Take
-/// two runs of gateways of one policy, whose tables hold the same; of IKE and of the time they may hold
-/// anything. Both are given the same packets in the same order: ESP packets, packets on their way out, and
-/// what comes in unprotected. Each of them is given others between them, or none, and each of those others
-///
-/// - counts for no IKE SA and is accepted by no pair: a request of IKE_SA_INIT, the response to an own one, a
-///   forged datagram, a repeat;
-/// - or leaves what the table holds as it was, as a tick does with which no IKE SA is closed.
-///
-/// Then each packet that both are given is answered in both runs by the same output, octet for octet, and
-/// both tables hold the same afterwards. So between two changes of the table no half-open IKE SA, however
-/// many there are, and no limit on them changes what becomes of a packet.
-///
-/// No packet that both are given is refused for memory. Not said: the same where an IKE SA's message changes
-/// the table, such as IKE_AUTH by whoever made a key exchange; or of pairs that aren't made as a limit is
-/// reached.
-pub fn packets_go_as_without_strangers<C>()
-    ensures { (meaning_of : C → Meaning) (marks also : List Bool) (passages others : List (Passage C))
-        (old other new after : State C)
-        → AreGivenAlike meaning_of GivesPacket marks also passages others old other new after
-        → other.entries ≡ old.entries
-        → table_content other.table ≡ table_content old.table
-        → EachLeftOut (LeavesTable meaning_of) marks passages
-        → EachLeftOut (LeavesTable meaning_of) also others
-        → AreAnsweredAlike marks also passages others
-        × (table_content after.table ≡ table_content new.table) }
-{
-    steps_are_determined::<C>();
-    keys_stay_whole();
-    later_tables_are_determined();
-    strangers_change_nothing::<C>();
-}
-
 /// The premises of [`strangers_change_nothing`] are met by a gateway that holds keys. It holds an established
 /// IKE SA, and a datagram with its SPIs and the Message ID that is due asks to delete it, and isn't encrypted
 /// (RFC 7296, sections 1.4 and 1.4.1). It opens under no keys, and so it is strange: the gateway drops it and
@@ -314,7 +204,7 @@ pub fn an_association_is_closed_by_its_peer<C>()
         → IsClosedByItsPeer config caller from fresh }
 {}
 
-/// The premises of [`what_has_no_effect_can_be_left_out`] are met by the same gateway: the stranger's
+/// The premises of `gateway::laws::what_has_no_effect_can_be_left_out` are met by the same gateway: the stranger's
 /// datagram is left out, and the peer's own brings the IKE SA to its end as it does with it.
 pub fn a_stranger_is_left_out_of_a_worked_run<C>()
     ensures { (config : Config) (caller : C) (from : Octets) (fresh : Fresh) → IsConfig config

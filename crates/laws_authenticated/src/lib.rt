@@ -1,5 +1,5 @@
-//! Only the authenticated carry, and what passes no check changes nothing, as laws alone, over every list of
-//! inputs.
+//! Only the authenticated carry, as laws alone, of each step and of either end of a world; and worked gateways
+//! that strangers meet.
 //!
 //! - [`laws::pairs_belong_to_the_established`]: each SA pair is of an IKE SA that is held and established.
 //! - [`laws::only_the_authenticated_carry`]: each ESP packet that a gateway accepts or seals is of a Child SA
@@ -9,19 +9,12 @@
 //!   packet is accepted or sealed for it, nor by a Child SA that was ever of it.
 //! - [`laws::children_lie_inside_the_policy`]: of each SA pair and of each Child SA that is waited for, the
 //!   selectors lie inside an entry that protects.
-//! - [`laws::strangers_change_nothing`]: what counts for no IKE SA, and is accepted by no SA pair, changes
-//!   nothing, but for IKE SAs that are just beginning.
-//! - [`laws::what_has_no_effect_can_be_left_out`]: of two runs that are given the same but for strange and
-//!   refused inputs, all else is answered alike.
-//! - [`laws::packets_go_as_without_strangers`]: so are packets, whatever IKE SAs strangers begin between
-//!   them.
 //! - [`laws::a_stranger_is_met_by_a_worked_gateway`], [`laws::an_association_is_closed_by_its_peer`],
 //!   [`laws::a_stranger_is_left_out_of_a_worked_run`]: a worked gateway that holds an IKE SA stays as it was
 //!   where a stranger asks to delete that, and closes it where the peer does, with the stranger or without.
 //!
-//! What the first five say of a list `gateway::run` promises, and their lemmas stand in [`gateway`]. Here
-//! they are said of single steps too, and of either end of a world. `proofs/LeavingLemmas` goes along two runs
-//! at once, by the law that a step has one result; `EffectLemmas` says of which part.
+//! What the first four say of a list `gateway::run` promises, and their lemmas stand in [`gateway`], as those
+//! on strangers do.
 #![tactic(auto)]
 
 pub mod laws;

@@ -1,6 +1,6 @@
 //! What two gateways agree on beside their requests: Child SAs, packets and windows.
 ghost use Rattle.effects.specs.Taking.{meaning_of};
-ghost use Rattle.gateway.specs.LawsOfBothEnds.{BothEndsKeepTheirPromises, NewWorldsAreWhollySound, WindowsAccountedForFit, WindowsStayAccountedFor};
+ghost use Rattle.gateway.specs.LawsOfBothEnds.{BothEndsKeepTheirPromises, CallsInARowKeepBothEnds, NewWorldsAreWhollySound, WindowsAccountedForFit, WindowsStayAccountedFor};
 ghost use Rattle.std.specs.Prelude.{◌≡◌, ℕ, Contains, List, Some, slice_get};
 ghost use Rattle.base.specs.Octets.{Octets};
 ghost use Rattle.suite.specs.declared.key_record.KeyRecord.{KeyRecord};
@@ -59,6 +59,15 @@ pub fn both_ends_keep_their_promises<C: Sealer + Agreement + Proof>()
     traffic::laws::later_tables_follow();
     what_one_end_seals_the_other_hands_up();
     windows_are_those_told::<C>();
+}
+
+/// So calls in a row keep it, each from where the one before ended: as one call does over the list of all
+/// their events. A window that one call told is not exceeded at a later one, the children of one request
+/// mirror each other whichever calls made them, and what goes up at a later call had been sealed before.
+pub fn calls_in_a_row_keep_both_ends<C: Sealer + Agreement + Proof>()
+    ensures { CallsInARowKeepBothEnds C C.body_of C.plain_of (meaning_of C.Sealer C.Agreement C.Proof) }
+{
+    both_ends_keep_their_promises::<C>();
 }
 
 /// Neither end assumes a wider window than its peer is configured with. This holds over every list of

@@ -3,6 +3,7 @@ use Rattle.std.proofs.lemmas.List.{length-map, length-take-le}
 use Rattle.effects.specs.Taking.{Meaning}
 use Rattle.gateway.specs.Groups.{TakesFirst}
 use Rattle.gateway.specs.Inputs.{Input, input_view}
+use Rattle.gateway.proofs.AlikeLemmas.{one_result}
 use Rattle.gateway.proofs.GroupLemmas.{takes_more}
 use Rattle.gateway.proofs.RunLemmas.{part_of_image}
 use Rattle.gateway.proofs.running.run.Goals as goal
@@ -110,3 +111,33 @@ returns-clause-all g c =
       runs = first.runs;
       promises = c.every_run_keeps_its_promises.ensures meaning_of _ first.outputs c.args.gateway.now c.loop-group.gateway first.runs;
     }
+
+pub returns-then-taken-count-clause-determined : goal.returns-then-taken-count-clause-determined
+returns-then-taken-count-clause-determined g c =
+    let meaning_of : _ → Meaning = λ caller. record {
+      cipher = g.C.Sealer.cipher;
+      body_of = g.C.Sealer.body_of;
+      plain_of = g.C.Sealer.plain_of;
+      group = g.C.Agreement.group_number;
+      public_value = g.C.Agreement.public_value;
+      shared_secret = g.C.Agreement.shared_secret;
+      own_method = g.C.Proof.own_method caller;
+      proof_of = g.C.Proof.proof_of caller;
+      accepts = g.C.Proof.accepts caller;
+    } in
+    one_result meaning_of (map input_view c.args.inputs.now) c.args.gateway.now c.what_has_no_effect_can_be_left_out.ensures c.tell_their_lengths.ensures
+
+pub returns-clause-determined : goal.returns-clause-determined
+returns-clause-determined g c =
+    let meaning_of : _ → Meaning = λ caller. record {
+      cipher = g.C.Sealer.cipher;
+      body_of = g.C.Sealer.body_of;
+      plain_of = g.C.Sealer.plain_of;
+      group = g.C.Agreement.group_number;
+      public_value = g.C.Agreement.public_value;
+      shared_secret = g.C.Agreement.shared_secret;
+      own_method = g.C.Proof.own_method caller;
+      proof_of = g.C.Proof.proof_of caller;
+      accepts = g.C.Proof.accepts caller;
+    } in
+    one_result meaning_of (map input_view c.args.inputs.now) c.args.gateway.now c.what_has_no_effect_can_be_left_out.ensures c.tell_their_lengths.ensures

@@ -1,7 +1,7 @@
 use Rattle.gateway.proofs.KeylessLemmas.{first_requests_add}
 use Rattle.gateway.proofs.KeylessLemmas as lemma
 use Rattle.gateway.proofs.StrangerLemmas.{StrangerFacts}
-use Rattle.laws_authenticated.proofs.laws.strangers_change_nothing.Goals as goal
+use Rattle.gateway.proofs.laws.strangers.strangers_change_nothing.Goals as goal
 
 pub returns : goal.returns
 returns g c =

@@ -1,8 +1,8 @@
 use Rattle.gateway.specs.Contents.{state_content}
-use Rattle.laws_authenticated.proofs.EffectLemmas.{facts_of, one_step, still_of, without_effect}
-use Rattle.laws_authenticated.proofs.LeavingLemmas.{answered_alike, each_is}
-use Rattle.laws_authenticated.proofs.laws.what_has_no_effect_can_be_left_out.Goals as goal
-use Rattle.laws_authenticated.specs.LeavingOut.{IsRightlyGiven}
+use Rattle.gateway.proofs.EffectLemmas.{facts_of, one_step, still_of, without_effect}
+use Rattle.gateway.proofs.LeavingLemmas.{answered_alike, each_is}
+use Rattle.gateway.proofs.laws.strangers.what_has_no_effect_can_be_left_out.Goals as goal
+use Rattle.gateway.specs.LeavingOut.{IsRightlyGiven}
 
 pub returns : goal.returns
 returns g c meaning_of marks also passages others old other new after are same out also_out =

@@ -18,7 +18,7 @@ use Rattle.gateway.specs.Lengths.{IsGiven}
 use Rattle.gateway.specs.Outputs.{OutputView}
 use Rattle.gateway.specs.States.{State}
 use Rattle.gateway.specs.Steps.{Steps}
-use Rattle.laws_authenticated.specs.LeavingOut.{ChangesNothing, GivesPacket, HasMemory, IsPacket, IsRightlyGiven, IsUncounted, IsWithoutEffect, KeepsTable, LeavesTable}
+use Rattle.gateway.specs.LeavingOut.{ChangesNothing, GivesPacket, HasMemory, IsPacket, IsRightlyGiven, IsUncounted, IsWithoutEffect, KeepsTable, LeavesTable}
 use Rattle.gateway.specs.Strangers.{AddsAtMostAHalfOpen, ChangesAtMostOneWaiting, CountsForOne, IsAsItWas, IsStrange}
 
 -- what is known of steps

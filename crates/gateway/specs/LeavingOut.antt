@@ -1,11 +1,11 @@
 -- Two runs that are given the same but for some inputs, which each of them may have been given alone.
-use Rattle.std.specs.Prelude.{◌≡◌, ◌⊎◌, ◌∷◌, ℕ, Bool, false, true, List, [], Some, map, slice_get}
+use Rattle.std.specs.Prelude.{◌≡◌, ◌⊎◌, ◌∷◌, ℕ, Bool, false, true, List, [], Some, map, slice_get, take}
 use Rattle.std.specs.List.{AllByRecursion}
 use Rattle.sadb.specs.Contents.{table_content}
 use Rattle.effects.specs.Taking.{Meaning}
 use Rattle.ike.specs.Receiving.{IsInitialRequest}
 use Rattle.gateway.specs.Contents.{state_content}
-use Rattle.gateway.specs.Histories.{IsTrail, Passage}
+use Rattle.gateway.specs.Histories.{IsHistory, IsTrail, Passage}
 use Rattle.gateway.specs.Inputs.{Input}
 use Rattle.gateway.specs.Inputs as input
 use Rattle.gateway.specs.Lengths.{IsGiven}
@@ -13,6 +13,7 @@ use Rattle.gateway.specs.Outputs.{wants_memory, OutputView}
 use Rattle.gateway.specs.Outputs as output
 use Rattle.gateway.specs.States.{State}
 use Rattle.gateway.specs.declared.fault.Reason.{Reason}
+use Rattle.gateway.specs.declared.output.Output.{Output}
 use Rattle.gateway.specs.Strangers.{CountsForOne, IsStrange}
 
 -- What stays of a list: a mark for each place says by true what is left out. Behind the marks all stays.
@@ -103,3 +104,21 @@ IsUncounted {C} meaning s given = IsStrange meaning s given
 -- it is such a one, or keeps the table for another reason
 abbrev pub LeavesTable : {C : Type 0} → (C → Meaning) → Passage C → Type 0
 LeavesTable {C} meaning_of p = IsUncounted (meaning_of p.before.caller) p.before p.given ⊎ KeepsTable p
+
+-- ---- what is promised of a list
+
+-- nothing is asked of a step
+abbrev pub IsAny : {C : Type 0} → Passage C → Type 0
+IsAny {C} p = Unit {0}
+
+-- Of a list of inputs, as far as it is taken. Let another run begin in a gateway that holds the same, and be
+-- given the same inputs, but for those that the marks of each run leave out. Each input that is left out is
+-- strange, is answered by `Refused`, or changes nothing for another reason. Then what both are given is
+-- answered alike, and both hold the same afterwards, as long as no input of theirs is refused for want of
+-- memory. So the run after a refusal is the run without that input. Where no mark leaves anything out, this
+-- says that one list has one result.
+pub record HasOneResultWithout {C : Type 0} (meaning_of : C → Meaning) (inputs : List Input) (old : State C) : Type 0 where
+  pub each : (count : ℕ) (outputs : List Output) (new : State C) (passages : List (Passage C)) → IsHistory meaning_of (take count inputs) outputs old new passages
+      → (marks also : List Bool) (others : List (Passage C)) (other after : State C) → AreGivenAlike meaning_of IsAny also marks others passages other old after new
+      → state_content old ≡ state_content other → EachLeftOut (IsWithoutEffect meaning_of) marks passages → EachLeftOut (IsWithoutEffect meaning_of) also others
+      → AreAnsweredAlike also marks others passages × (state_content new ≡ state_content after)

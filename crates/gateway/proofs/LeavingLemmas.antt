@@ -6,7 +6,7 @@ use Rattle.effects.specs.Taking.{Meaning}
 use Rattle.gateway.specs.Histories.{IsPassage, IsTrail, Passage}
 use Rattle.gateway.specs.Inputs.{Input}
 use Rattle.gateway.specs.States.{State}
-use Rattle.laws_authenticated.specs.LeavingOut.{inputs_of, outputs_of, without, AreAnsweredAlike, AreGivenAlike, EachLeftOut, HasMemory}
+use Rattle.gateway.specs.LeavingOut.{inputs_of, outputs_of, without, AreAnsweredAlike, AreGivenAlike, EachLeftOut, HasMemory}
 
 -- ---- lists
 

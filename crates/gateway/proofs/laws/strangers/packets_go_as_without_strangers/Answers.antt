@@ -1,8 +1,8 @@
 use Rattle.std.proofs.Common.{ap}
-use Rattle.laws_authenticated.proofs.EffectLemmas.{facts_of, ground_of, leaves_ground, one_packet, same_ground, still_of, Ground}
-use Rattle.laws_authenticated.proofs.LeavingLemmas.{answered_alike, each_is}
-use Rattle.laws_authenticated.proofs.laws.packets_go_as_without_strangers.Goals as goal
-use Rattle.laws_authenticated.specs.LeavingOut.{GivesPacket}
+use Rattle.gateway.proofs.EffectLemmas.{facts_of, ground_of, leaves_ground, one_packet, same_ground, still_of, Ground}
+use Rattle.gateway.proofs.LeavingLemmas.{answered_alike, each_is}
+use Rattle.gateway.proofs.laws.strangers.packets_go_as_without_strangers.Goals as goal
+use Rattle.gateway.specs.LeavingOut.{GivesPacket}
 
 pub returns : goal.returns
 returns g c meaning_of marks also passages others old other new after are entries table out also_out =
