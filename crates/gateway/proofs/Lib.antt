@@ -47,6 +47,8 @@ pub mod InsideLemmas
 pub mod InsideRunLemmas
 pub mod ClosingLemmas
 mod KnownLemmas
+mod GivingLemmas
+mod SpiLemmas
 mod FrontLemmas
 mod OriginLemmas
 pub mod LeavingLemmas

@@ -12,10 +12,11 @@ use Rattle.gateway.proofs.HistoryLemmas.{told}
 use Rattle.gateway.proofs.KnownLemmas.{carrying_kept, closing_kept, inside_kept, strangers_kept, KnownFacts}
 use Rattle.gateway.proofs.MomentLemmas.{moments_kept, MomentFacts}
 use Rattle.gateway.proofs.RequestLemmas.{repeats_kept, requests_kept, RefusalLaw, RequestFacts}
+use Rattle.gateway.proofs.SpiLemmas.{spis_kept, SpiFacts}
 
-pub keeps_promises : {C : Type 0} (facts : RequestFacts) (changes_nothing : RefusalLaw C) (moments : MomentFacts) (packets : DeliveryFacts) (proved : AuthenticationFacts) (known : KnownFacts) (meaning_of : C → Meaning) (is : List Input) (os : List Output) (old new : State C)
+pub keeps_promises : {C : Type 0} (facts : RequestFacts) (changes_nothing : RefusalLaw C) (moments : MomentFacts) (packets : DeliveryFacts) (proved : AuthenticationFacts) (known : KnownFacts) (spis : SpiFacts) (meaning_of : C → Meaning) (is : List Input) (os : List Output) (old new : State C)
     → Runs (StepsAs meaning_of) is os old new → KeepsPromises meaning_of is os old new
-keeps_promises {C} facts changes_nothing moments packets proved known meaning_of is os old new run =
+keeps_promises {C} facts changes_nothing moments packets proved known spis meaning_of is os old new run =
     let t = told meaning_of is os old new run in
     record {
       passages = t.passages;
@@ -29,6 +30,7 @@ keeps_promises {C} facts changes_nothing moments packets proved known meaning_of
       closing = closing_kept known meaning_of old new t.passages t.history.trail;
       inside = inside_kept known meaning_of old new t.passages t.history.trail;
       strangers = strangers_kept known meaning_of old new t.passages t.history.trail;
+      spis = spis_kept spis meaning_of old new t.passages t.history.trail;
       every = λ others history. record {
         requests = requests_kept facts changes_nothing meaning_of old new others history.trail;
         repeats = repeats_kept facts changes_nothing meaning_of old new others history.trail;
@@ -39,5 +41,6 @@ keeps_promises {C} facts changes_nothing moments packets proved known meaning_of
         closing = closing_kept known meaning_of old new others history.trail;
         inside = inside_kept known meaning_of old new others history.trail;
         strangers = strangers_kept known meaning_of old new others history.trail;
+        spis = spis_kept spis meaning_of old new others history.trail;
       };
     }

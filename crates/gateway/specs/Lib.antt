@@ -40,5 +40,6 @@ pub mod Carrying
 pub mod Closing
 pub mod Inside
 pub mod Strangers
+pub mod Spis
 pub mod Origin
 pub mod LeavingOut

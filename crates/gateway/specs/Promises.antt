@@ -10,12 +10,14 @@ use Rattle.gateway.specs.Inside.{ChildrenStayInside}
 use Rattle.gateway.specs.Moments.{MomentsComeInTime}
 use Rattle.gateway.specs.Packets.{PacketsAreDelivered}
 use Rattle.gateway.specs.Requests.{RepeatsAreAnswered, RequestsTakeEffect}
+use Rattle.gateway.specs.Spis.{AnSpiNamesOnePair}
 use Rattle.gateway.specs.States.{State}
 use Rattle.gateway.specs.Strangers.{StrangersChangeNothing}
 use Rattle.gateway.specs.declared.output.Output.{Output}
 
 -- what is promised of who is established, for whom packets are carried, of strangers, of the peer's
--- requests, of their retransmissions, of ticks, and of ESP packets, over these steps from a state to another
+-- requests, of their retransmissions, of ticks, of ESP packets, and of inbound SPIs, over these steps from a
+-- state to another
 pub record AreKept {C : Type 0} (meaning_of : C → Meaning) (old : State C) (passages : List (Passage C)) (new : State C) : Type 0 where
   pub requests : RequestsTakeEffect meaning_of passages
   pub repeats : RepeatsAreAnswered meaning_of passages
@@ -26,6 +28,7 @@ pub record AreKept {C : Type 0} (meaning_of : C → Meaning) (old : State C) (pa
   pub closing : TheClosedCarryNothing old passages new
   pub inside : ChildrenStayInside old passages new
   pub strangers : StrangersChangeNothing meaning_of passages
+  pub spis : AnSpiNamesOnePair old passages new
 
 -- The inputs that were taken have a history of which that holds, and it holds of every history of them.
 pub record KeepsPromises {C : Type 0} (meaning_of : C → Meaning) (inputs : List Input) (outputs : List Output) (old new : State C) : Type 0 where
@@ -40,4 +43,5 @@ pub record KeepsPromises {C : Type 0} (meaning_of : C → Meaning) (inputs : Lis
   pub closing : TheClosedCarryNothing old passages new
   pub inside : ChildrenStayInside old passages new
   pub strangers : StrangersChangeNothing meaning_of passages
+  pub spis : AnSpiNamesOnePair old passages new
   pub every : (others : List (Passage C)) → IsHistory meaning_of inputs outputs old new others → AreKept meaning_of old others new

@@ -229,6 +229,8 @@
 //! - what strangers change (`StrangerLemmas`, `KeylessLemmas`), by the way a datagram is taken;
 //! - what can be left out (`AlikeLemmas`): `LeavingLemmas` goes along two runs at once, by the law that a step
 //!   has one result, and `EffectLemmas` says of which part;
+//! - inbound SPIs (`SpiLemmas`): no step brings one back that was given (`GivingLemmas`), so each table
+//!   follows the one before, as [`sadb`] has it;
 //! - what is refused changes nothing but spare capacity (`LawLemmas`).
 //!
 //! Of two gateways, a step is a turn of its party in [`lockstep`] (`TurnLemmas`), and by induction on the

@@ -39,6 +39,7 @@ use suite::{Agreement, Proof, Sealer};
 ///   its first arrival while the child's pair is installed. Its number must be rightly recovered, inside or
 ///   above the window, and not taken before the list. The output is the verdict on its payload.
 /// - No other ESP packet delivers anything.
+/// - An inbound SPI names one SA pair for ever.
 /// - Each IKE SA that is established after an input was so before the list, or its peer proved itself by
 ///   one of these inputs, under the same keys.
 /// - Each SA pair, and each ESP packet that is accepted or sealed, is of an IKE SA that is established then:

@@ -10,6 +10,7 @@ use deliveries::laws::{
 use ike::laws::one_association_is_changed;
 use moments::laws::{pairs_go_with_their_associations, some_are_held_on, what_is_held_was_held};
 use requests::laws::later_incoming_follow;
+use sadb::laws::an_spi_names_one_pair;
 use traffic::laws::a_packet_takes_one_number;
 use wire::laws::octets_spell_one_message;
 
@@ -27,6 +28,9 @@ use wire::laws::octets_spell_one_message;
 /// section 2.15). Each SA pair, and each ESP packet that is accepted or sealed, is of a Child SA that such an
 /// IKE SA made, inside the policy; once that one is closed nothing more is carried for it. What passes no
 /// check under keys changes nothing, but for IKE SAs that are just beginning.
+///
+/// An inbound SPI names one SA pair for ever: what has it before a later step, or after the list, is the
+/// pair that had it, and none if that one has gone meanwhile (RFC 4301, section 4.4.2).
 pub fn every_run_keeps_its_promises<C>()
     ensures { EveryRunKeepsItsPromises C }
 {
@@ -53,6 +57,8 @@ pub fn every_run_keeps_its_promises<C>()
     every_list_of_packets_is_judged();
     other_changes_leave_windows();
     a_packet_takes_one_number();
+    sadb::laws::later_tables_follow();
+    an_spi_names_one_pair();
 }
 
 /// So over a list that is given to a new gateway the peer of each IKE SA that is established proved

@@ -4,6 +4,7 @@ use Rattle.gateway.proofs.KnownLemmas.{KnownFacts}
 use Rattle.gateway.proofs.MomentLemmas.{MomentFacts}
 use Rattle.gateway.proofs.PromiseLemmas.{keeps_promises}
 use Rattle.gateway.proofs.RequestLemmas.{RequestFacts}
+use Rattle.gateway.proofs.SpiLemmas.{SpiFacts}
 use Rattle.gateway.proofs.laws.runs.every_run_keeps_its_promises.Goals as goal
 
 pub returns : goal.returns
@@ -88,4 +89,14 @@ returns g c =
       };
       one = c.octets_spell_one_message.ensures.message;
     } in
-    λ meaning_of inputs outputs old new run. keeps_promises facts c.refusals_change_nothing.ensures.refused moments packets proved known meaning_of inputs outputs old new run
+    let spis : SpiFacts = record {
+      one = c.an_spi_names_one_pair.ensures;
+      transitive = c.later_tables_follow-2.ensures.transitive;
+      preparing = c.later_tables_follow-2.ensures.preparing;
+      marking = c.later_tables_follow-2.ensures.marking;
+      received = c.later_tables_follow.ensures.received;
+      sent = c.later_tables_follow.ensures.sent;
+      changed = c.one_association_is_changed.ensures;
+      fewer = c.some_are_held_on.ensures.pairs;
+    } in
+    λ meaning_of inputs outputs old new run. keeps_promises facts c.refusals_change_nothing.ensures.refused moments packets proved known spis meaning_of inputs outputs old new run
