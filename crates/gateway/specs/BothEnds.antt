@@ -55,10 +55,11 @@ pub record PromisesOfBothEnds {C : Type 0} (body_of : Keys → Octets → Octets
   pub once : (place other serial number : ℕ) (one two : Octets) (h g : Happening C) → slice_get happenings place ≡ Some h → slice_get happenings other ≡ Some g
       → h.event.end ≡ g.event.end → h.said ≡ Up serial number one → g.said ≡ Up serial number two → place ≡ other
 
--- Over these events: where a Child SA delivers a packet, the other end had sent an ESP packet that carries it,
--- octet for octet, before this step. It was sealed by the other end's pair of this Child SA, and that end's
--- policy protects it. It asks that the world was wholly sound under the child's keys before the list, as a
--- world of two new gateways is, and that nothing was forged up to this step.
+-- Over these events: where a Child SA delivers a packet, the other end had sent an ESP packet that carries
+-- it, octet for octet, before this step. It was sealed by the other end's pair of this Child SA, and that
+-- end's policy protects it. It asks that the world was wholly sound under the child's keys before the list,
+-- as a world of two new gateways is, and that nothing was forged up to this step. That the accepted octets
+-- had been sent is assumed so. What they carry, and that the other end's pair sealed it, is proved.
 pub record WhatGoesUpHadBeenSealed {C : Type 0} (body_of : Keys → Octets → Octets → Octets → Octets) (plain_of : Opening) (meaning_of : C → Meaning) (happenings : List (Happening C)) (old : WorldState C) : Type 0 where
   pub each : (keys : KeyRecord) (child : Child) (place number : ℕ) (packet : Octets) (h : Happening C) → IsWhollySound body_of plain_of keys old → slice_get happenings place ≡ Some h
       → IsUnforgedUpTo meaning_of keys child happenings place h → h.event.end ≡ child.end → h.said ≡ Up child.serial number packet → WasSealedByOther child number packet h h.before

@@ -60,8 +60,8 @@ pub record CarriesNothing {C : Type 0} (child : ℕ) (p : Passage C) : Type 0 wh
   pub said : child_said p.said ≢ Some child
 
 -- At each later step the IKE SA is still over, and no SA pair in the table names it. Each Child SA as whose
--- a packet is accepted, and each one that an output names, is of another IKE SA. Each one that was ever of
--- this one carries nothing more. So it is after the list, too.
+-- a packet is accepted, and each one that an output names, is of another IKE SA. Each one whose pair named
+-- this one before a step up to that place carries nothing more. So it is after the list, too.
 pub record NothingIsCarriedAfter {C : Type 0} (passages : List (Passage C)) (place serial : ℕ) (new : State C) : Type 0 where
   pub held : (later : ℕ) (p : Passage C) → place < later → slice_get passages later ≡ Some p → HasNothingLeft p.before serial
   pub accepted : (later child number : ℕ) (p : Passage C) → place < later → slice_get passages later ≡ Some p → JudgesOne child number p → IsOfAnother serial child p

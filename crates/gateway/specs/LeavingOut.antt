@@ -94,8 +94,8 @@ GivesPacket {C} p = IsPacket p.given
 abbrev pub KeepsTable : {C : Type 0} → Passage C → Type 0
 KeepsTable {C} p = table_content p.after.table ≡ table_content p.before.table
 
--- What counts for no IKE SA and is accepted by no pair: a request of IKE_SA_INIT, any other datagram that
--- counts for none (the response to an own IKE_SA_INIT among them), an ESP packet that is accepted as no
+-- What counts for no IKE SA and is accepted by no pair. It is a request of IKE_SA_INIT, or any other datagram
+-- that counts for none, as the response to an own IKE_SA_INIT. So is an ESP packet that is accepted as no
 -- number of no pair, and what comes in unprotected.
 abbrev pub IsUncounted : {C : Type 0} → Meaning → State C → Input → Type 0
 IsUncounted {C} meaning s (input.Ike from octets fresh) = IsInitialRequest octets ⊎ ((¬ IsInitialRequest octets) × (¬ CountsForOne meaning.plain_of s.machine.held octets))

@@ -15,9 +15,9 @@ use Rattle.gateway.specs.States.{State}
 use Rattle.gateway.specs.Strangers.{StrangersChangeNothing}
 use Rattle.gateway.specs.declared.output.Output.{Output}
 
--- what is promised of who is established, for whom packets are carried, of strangers, of the peer's
--- requests, of their retransmissions, of ticks, of ESP packets, and of inbound SPIs, over these steps from a
--- state to another
+-- What is promised over these steps from a state to another: of the peer's requests, of their
+-- retransmissions, of ticks, and of ESP packets; of who is established, for whom packets are carried and for
+-- whom no more, and inside which selectors; of strangers, and of inbound SPIs.
 pub record AreKept {C : Type 0} (meaning_of : C → Meaning) (old : State C) (passages : List (Passage C)) (new : State C) : Type 0 where
   pub requests : RequestsTakeEffect meaning_of passages
   pub repeats : RepeatsAreAnswered meaning_of passages

@@ -227,8 +227,8 @@
 //!   each pair comes from, `CarryingLemmas` follows that over a list, `InsideLemmas` what is asked for, and
 //!   `ClosingLemmas` an IKE SA that is closed or gone;
 //! - what strangers change (`StrangerLemmas`, `KeylessLemmas`), by the way a datagram is taken;
-//! - what can be left out (`AlikeLemmas`): `LeavingLemmas` goes along two runs at once, by the law that a step
-//!   has one result, and `EffectLemmas` says of which part;
+//! - what can be left out (`AlikeLemmas`): `LeavingLemmas` goes along two runs at once, by the law that a
+//!   step has one result, and `EffectLemmas` says of which part;
 //! - inbound SPIs (`SpiLemmas`): no step brings one back that was given (`GivingLemmas`), so each table
 //!   follows the one before, as [`sadb`] has it;
 //! - what is refused changes nothing but spare capacity (`LawLemmas`).
@@ -238,8 +238,8 @@
 //! own, kept event by event (`WindowWorldLemmas`, `ChildLemmas`, `PairLemmas`). `CarryLemmas` joins these,
 //! with `MirrorLemmas` and what [`traffic`] says of mirrored pairs. `World` reserves all memory before a
 //! step (`FittingLemmas`), so nothing that was sent is lost. That what goes up had been sealed before it came
-//! is the promise of the list up to that step (`OriginLemmas`). The files `Worked..` show that the assumptions
-//! can be met.
+//! is the promise of the list up to that step (`OriginLemmas`). The files `Worked..` show that the
+//! assumptions can be met.
 #![tactic(auto)]
 
 mod ahead;

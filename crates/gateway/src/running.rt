@@ -46,7 +46,8 @@ use suite::{Agreement, Proof, Sealer};
 ///   since before the list, or since its peer proved itself by one of these inputs. Its Child SA was made
 ///   under the same keys. Once that IKE SA is closed nothing more is carried for it. This asks that each pair
 ///   is of an established IKE SA before the list, as in a new gateway, and leaves it so.
-/// - All selectors lie inside one entry that protects, if they do so before the list.
+/// - The selectors of each SA pair, and of each Child SA that is asked for, lie inside one entry that
+///   protects, if all did before the list.
 /// - What comes in and passes no check under keys that are held changes nothing, but for IKE SAs that are
 ///   just beginning.
 /// - An input that is refused on allocation failure counts as lost.

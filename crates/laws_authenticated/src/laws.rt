@@ -204,8 +204,8 @@ pub fn an_association_is_closed_by_its_peer<C>()
         → IsClosedByItsPeer config caller from fresh }
 {}
 
-/// The premises of `gateway::laws::what_has_no_effect_can_be_left_out` are met by the same gateway: the stranger's
-/// datagram is left out, and the peer's own brings the IKE SA to its end as it does with it.
+/// The premises of `gateway::laws::what_has_no_effect_can_be_left_out` are met by the same gateway: the
+/// stranger's datagram is left out, and the peer's own brings the IKE SA to its end as it does with it.
 pub fn a_stranger_is_left_out_of_a_worked_run<C>()
     ensures { (config : Config) (caller : C) (from : Octets) (fresh : Fresh) → IsConfig config
         → CanLeaveAStrangerOut config caller from fresh }

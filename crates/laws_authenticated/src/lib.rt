@@ -1,5 +1,5 @@
-//! Only the authenticated carry, as laws alone, of each step and of either end of a world; and worked gateways
-//! that strangers meet.
+//! Only the authenticated carry, as laws alone, of each step and of either end of a world; and worked
+//! gateways that strangers meet.
 //!
 //! - [`laws::pairs_belong_to_the_established`]: each SA pair is of an IKE SA that is held and established.
 //! - [`laws::only_the_authenticated_carry`]: each ESP packet that a gateway accepts or seals is of a Child SA

@@ -29,8 +29,8 @@ use wire::laws::octets_spell_one_message;
 ///   that no pair accepts, and what comes in unprotected (`strange`).
 /// - A request of IKE_SA_INIT makes one half-open IKE SA at most, and changes nothing else (`first`).
 /// - Any other datagram that counts for none changes at most the IKE SA that it is for, which waits for the
-///   response to its own IKE_SA_INIT, and then waits still: whoever sees that request can answer it
-///   (`answer`).
+///   response to its own IKE_SA_INIT. Then that one waits for this response still, or for the one to
+///   IKE_AUTH: whoever sees its request can answer it (`answer`).
 pub fn strangers_change_nothing<C>()
     ensures strange { (meaning_of : C → Meaning) (p : Passage C) → IsPassage meaning_of p
         → IsStrange (meaning_of p.before.caller) p.before p.given

@@ -62,8 +62,9 @@ pub fn both_ends_keep_their_promises<C: Sealer + Agreement + Proof>()
 }
 
 /// So calls in a row keep it, each from where the one before ended: as one call does over the list of all
-/// their events. A window that one call told is not exceeded at a later one, the children of one request
-/// mirror each other whichever calls made them, and what goes up at a later call had been sealed before.
+/// their events. The lists have the events that each call took. A window that one call told is not exceeded
+/// at a later one. The children of one request mirror each other, whichever calls made them. What goes up at
+/// a later call had been sealed before.
 pub fn calls_in_a_row_keep_both_ends<C: Sealer + Agreement + Proof>()
     ensures { CallsInARowKeepBothEnds C C.body_of C.plain_of (meaning_of C.Sealer C.Agreement C.Proof) }
 {
@@ -98,9 +99,9 @@ pub fn windows_are_those_told<C: Sealer + Agreement + Proof>()
 ///
 /// It asks that the world was wholly sound under the Child SA's keys before the history (`sound`), as every
 /// world of two new gateways is (`begun`). And it asks of the history up to this step
-/// (`IsUnforgedUpTo`): what came under these keys, and what was accepted of the Child SA,
-/// the other end had sent before; neither end came to these keys twice; and no other Child SA of the other
-/// end sends under its SPI and key.
+/// (`IsUnforgedUpTo`): what came under these keys, and what was accepted of the Child SA, the other end had
+/// sent before. Neither end came to these keys twice. No other Child SA of the other end sends under its SPI
+/// and key.
 pub fn what_goes_up_had_been_sealed<C: Sealer + Agreement + Proof>()
     ensures sound { (keys : KeyRecord) (child : Child) (old new : WorldState C) (happenings : List (Happening C))
         (place number : ℕ) (packet : Octets) (h : Happening C)
