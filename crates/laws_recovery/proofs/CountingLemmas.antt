@@ -1,5 +1,5 @@
 -- How often a request went out again.
-use Rattle.std.proofs.Common.{◌≡◌, ◌≢◌, ◌+◌, ◌<◌, ◌≤◌, ◌⊎◌, ◌++◌, ◌∷◌, ◌&&◌, ◌||◌, [], ℕ, List, map, Bool, true, false, cond, Option, Some, None, All, Contains, ap, arith, length, max, nat_cmp, refl, subst, sym, ◌∙◌, inl, inr, suc, zero}
+use Rattle.std.proofs.Common.{◌≡◌, ◌≢◌, ◌+◌, ◌<◌, ◌∷◌, ◌||◌, [], ℕ, List, map, Bool, true, false, cond, Some, All, Contains, ap, arith, length, max, nat_cmp, refl, subst, sym, ◌∙◌, inl, inr, suc, zero}
 use Rattle.std.proofs.lemmas.Bool.{eq-eqb, eqb-true, ne_eqb}
 use Rattle.std.proofs.lemmas.List.Elements.{All-contains, Contains-append_cases}
 use Rattle.std.proofs.lemmas.Option.{none-some, same_Some}
@@ -24,7 +24,7 @@ use Rattle.moments.specs.declared.resent.Resent.{Resent}
 use Rattle.ike.specs.Machines.{association_of, Held, Machine}
 use Rattle.ike.specs.Soundness.{AreSound}
 use Rattle.ike.specs.LawsOfTimes.{MomentsAreRefusedForMemoryAlone, TheTimeStandsStill, WhatIsDueComes}
-use Rattle.ike.specs.Moments.{tells_moment, IsTimely, StaysAt, WaitsAt}
+use Rattle.ike.specs.Moments.{tells_moment, StaysAt, WaitsAt}
 use Rattle.ike.specs.Orders as orders
 use Rattle.ike.specs.Steps as ike
 use Rattle.ike.specs.declared.output.IkeOutput.{IkeOutput}
@@ -55,16 +55,16 @@ any_there {X} test (y ∷ ys) x there passes = elim (Contains-append_cases (y �
   | inr further ↦ or_right (test y) (list_any test ys) (any_there test ys x further passes)
 ]
 
-record Among {X : Type 0} (test : X → Bool) (xs : List X) : Type 0 where
-  item : X
-  there : Contains xs item
-  passes : test item ≡ true
+pub record Among {X : Type 0} (test : X → Bool) (xs : List X) : Type 0 where
+  pub item : X
+  pub there : Contains xs item
+  pub passes : test item ≡ true
 
 among_cons : {X : Type 0} (test : X → Bool) (b : Bool) (x : X) (xs : List X) → test x ≡ b → (list_any test xs ≡ true → Among test xs) → (b || list_any test xs) ≡ true → Among test (x ∷ xs)
 among_cons {X} test true x xs its more is = record { item = x; there = at_head x xs; passes = its }
 among_cons {X} test false x xs its more is = let rest = more is in record { item = rest.item; there = further_on x xs rest.item rest.there; passes = rest.passes }
 
-among : {X : Type 0} (test : X → Bool) (xs : List X) → list_any test xs ≡ true → Among test xs
+pub among : {X : Type 0} (test : X → Bool) (xs : List X) → list_any test xs ≡ true → Among test xs
 among {X} test [] is = absurd cc
 among {X} test (x ∷ xs) is = among_cons test (test x) x xs refl (among test xs) is
 
@@ -121,7 +121,7 @@ found_first (x ∷ xs) (suc k) a there before =
     ap (λ b. cond b (Some x) (association_of a.serial xs)) (ne_eqb x.serial a.serial (before zero x (omega arith) refl))
     ∙ found_first xs k a there (λ j c less at. before (suc j) c (omega (arith, less)) at)
 
-sound_found : (held : Held) (table : Database) (place : ℕ) (a : Association) → AreSound held table → slice_get held.associations place ≡ Some a → association_of a.serial held.associations ≡ Some a
+pub sound_found : (held : Held) (table : Database) (place : ℕ) (a : Association) → AreSound held table → slice_get held.associations place ≡ Some a → association_of a.serial held.associations ≡ Some a
 sound_found held table place a sound there =
     found_first held.associations place a there (λ k c less at. let rising = (sound.apart k place c a less at there).rising in λ same. omega (arith, rising, same))
 
@@ -307,16 +307,16 @@ module _ {C : Type 0} (comes : WhatIsDueComes) (unrefused : MomentsAreRefusedFor
 
   pub counted : (ps : List (Passage C)) (old new : State C) (request asked : Request) → IsTrail meaning_of old ps new → WaitsAt old.machine.held serial number request → exchange_of request.purpose ≢ IKE_SA_INIT
       → WaitsThroughout serial number ps → WaitsAt new.machine.held serial number asked
-      → (asked.octets ≡ request.octets) × (asked.timer.repeats ≡ request.timer.repeats + times_again serial number ps)
+      → (asked.octets ≡ request.octets) × (asked.timer.repeats ≡ request.timer.repeats + times_again serial number ps) × (asked.purpose ≡ request.purpose)
   counted [] old new request asked trail waiting keyed through ends =
       let same : asked ≡ request = one_waiting old.machine.held serial number asked request (subst (λ (x : State C). WaitsAt x.machine.held serial number asked) trail ends) waiting in
-      (ap (λ (r : Request). r.octets) same, (let repeats = ap (λ (r : Request). r.timer.repeats) same in omega (arith, repeats)))
+      (ap (λ (r : Request). r.octets) same, (let repeats = ap (λ (r : Request). r.timer.repeats) same in omega (arith, repeats)), ap (λ (r : Request). r.purpose) same)
   counted (p ∷ ps) old new request asked trail waiting keyed through ends =
       let then = waits_next ps p.after new asked trail.2 through.1 ends in
       let one : IsCounted serial number p request then.0 =
       counted_once comes unrefused still meaning_of serial number p trail.1 request (subst (λ (x : State C). WaitsAt x.machine.held serial number request) (sym trail.0) waiting) keyed then.0 then.1 in
       let rest = counted ps p.after new then.0 asked trail.2 then.1 (λ is. keyed (ap exchange_of (sym one.purpose) ∙ is)) through.1 ends in
-      (rest.0 ∙ one.octets, (let here = one.repeats in let further = rest.1 in omega (arith, here, further)))
+      (rest.0 ∙ one.octets, (let here = one.repeats in let further = rest.1 in omega (arith, here, further)), rest.2 ∙ one.purpose)
 
 -- no request went out more often than it may
 pub often_enough : (moment now : ℕ) (held : Held) (serial number : ℕ) (asked : Request) (times : ℕ) → All (IsInTime moment) held.associations → WaitsAt held serial number asked → IsDue asked.timer now Over

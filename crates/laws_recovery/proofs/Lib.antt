@@ -1,2 +1,14 @@
 mod WaitingLemmas
 mod CountingLemmas
+mod BeginningLemmas
+mod AskingLemmas
+mod TakingLemmas
+mod CopyLemmas
+mod ResponseLemmas
+mod MatchingLemmas
+mod RemovingLemmas
+mod WorldLemmas
+mod WorldCopyLemmas
+mod WorkedRecoveryLemmas
+mod WorkedExchangeLemmas
+mod WorkedCopyLemmas

@@ -1,12 +1,12 @@
 -- What a tick brings of a request that waits.
-use Rattle.std.proofs.Common.{◌≡◌, ◌≢◌, ◌+◌, ◌<◌, ◌≤◌, ◌⊎◌, ◌++◌, ◌∷◌, ◌&&◌, [], ℕ, List, map, Bool, true, false, cond, not, Option, Some, None, Contains, length, max, ap, arith, refl, subst, sym, ◌∙◌, inl, inr}
+use Rattle.std.proofs.Common.{◌≡◌, ◌⊎◌, ◌++◌, ◌∷◌, ◌&&◌, [], ℕ, List, map, Bool, true, false, cond, not, Some, Contains, length, ap, arith, refl, subst, sym, ◌∙◌, inl, inr}
 use Rattle.std.proofs.lemmas.Bool.{eqb-true, le-leb, leb-true, lt-ltb}
 use Rattle.std.proofs.lemmas.Bool.Decides.{eqb_tells}
 use Rattle.std.proofs.lemmas.List.Elements.{Contains-append_cases, Contains-append_left, Contains-append_right, Contains-push, Contains-push_cases}
 use Rattle.std.proofs.lemmas.List.Folds.{find_at}
 use Rattle.std.proofs.lemmas.Option.{none-some, same_Some}
 use Rattle.std.specs.FinMap as numbers
-use Rattle.std.specs.List.{filter, flat_map, position_or_len, slice_get, AllZip}
+use Rattle.std.specs.List.{filter, flat_map, position_or_len, AllZip}
 use Rattle.std.specs.Option.{option_map}
 use Rattle.std.specs.Ordering.{nat_cmp}
 use Rattle.requests.specs.Outgoing.{OwnRequests}
@@ -29,16 +29,13 @@ use Rattle.ike.specs.Moments.{BringsDue, WaitsAt}
 use Rattle.ike.specs.Soundness.{AreSound}
 use Rattle.ike.specs.LawsOfTimes.{MomentsAreRefusedForMemoryAlone, WhatIsDueComes}
 use Rattle.ike.specs.Steps as ike
-use Rattle.ike.specs.declared.fault.IkeFault.{IkeFault}
 use Rattle.gateway.specs.Histories.{IsPassage, Passage}
 use Rattle.gateway.specs.Inputs.{Input}
-use Rattle.gateway.specs.Inputs as input
 use Rattle.gateway.specs.Outputs as output
 use Rattle.gateway.specs.Outputs.{view_of_ike, wants_memory, OutputView}
 use Rattle.gateway.specs.Steps.{DoesInput, StepsIke}
 use Rattle.gateway.specs.Worlds.{requests_in}
-use Rattle.gateway.specs.declared.fault.Reason.TheVariants as reason
-use Rattle.laws_recovery.specs.Waiting.{sent_again, Brings, GoesOutAgain, IsGivenUp, IsTold, WaitsAfter, WaitsBefore}
+use Rattle.laws_recovery.specs.Waiting.{sent_again, GoesOutAgain, IsGivenUp, IsTold, WaitsAfter, WaitsBefore}
 
 -- ---- lists
 
@@ -99,15 +96,15 @@ held_cons now serial false true x xs held a over its alive more is = ap (λ b. c
 held_cons now serial true false x xs held a over its alive more is = more is
 held_cons now serial false false x xs held a over its alive more is = ap (λ b. cond b (Some x) (association_of serial held)) its ∙ more is
 
-stays_held : (now serial : ℕ) (xs : List Association) (a : Association) → is_over now a.phase ≡ false → association_of serial xs ≡ Some a → association_of serial (held_of now xs) ≡ Some a
+pub stays_held : (now serial : ℕ) (xs : List Association) (a : Association) → is_over now a.phase ≡ false → association_of serial xs ≡ Some a → association_of serial (held_of now xs) ≡ Some a
 stays_held now serial [] a alive is = is
 stays_held now serial (x ∷ xs) a alive is =
     held_cons now serial (is_over now x.phase) (has_serial serial x) x xs (held_of now xs) a refl refl alive (stays_held now serial xs a alive) is
 
-record Zipped (now serial : ℕ) (closed : List ℕ) (a : Association) (ys : List Association) : Type 0 where
-  held : Association
-  there : association_of serial ys ≡ Some held
-  stays : StaysItself now closed a held
+pub record Zipped (now serial : ℕ) (closed : List ℕ) (a : Association) (ys : List Association) : Type 0 where
+  pub held : Association
+  pub there : association_of serial ys ≡ Some held
+  pub stays : StaysItself now closed a held
 
 zip_cons : (now serial : ℕ) (closed : List ℕ) (here : Bool) (x y : Association) (xs ys : List Association) (a : Association) → has_serial serial x ≡ here → StaysItself now closed x y
     → (association_of serial xs ≡ Some a → Zipped now serial closed a ys) → cond here (Some x) (association_of serial xs) ≡ Some a → Zipped now serial closed a (y ∷ ys)
@@ -125,13 +122,13 @@ zip_cons now serial closed false x y xs ys a is stays more stands =
       stays = rest.stays;
     }
 
-zipped : (now serial : ℕ) (closed : List ℕ) (xs ys : List Association) (a : Association) → AllZip (StaysItself now closed) xs ys → association_of serial xs ≡ Some a → Zipped now serial closed a ys
+pub zipped : (now serial : ℕ) (closed : List ℕ) (xs ys : List Association) (a : Association) → AllZip (StaysItself now closed) xs ys → association_of serial xs ≡ Some a → Zipped now serial closed a ys
 zipped now serial closed [] ys a zip stands = absurd cc
 zipped now serial closed (x ∷ xs) [] a zip stands = absurd zip
 zipped now serial closed (x ∷ xs) (y ∷ ys) a zip stands = zip_cons now serial closed (has_serial serial x) x y xs ys a refl zip.0 (zipped now serial closed xs ys a zip.1) stands
 
 -- nothing waits in a phase that ends by itself
-over_phase : (now : ℕ) (p : Phase) (outstanding : numbers.FinMap nat_cmp Request) (number : ℕ) (request : Request) → SuitPhase p outstanding → numbers.get outstanding number ≡ Some request → is_over now p ≡ false
+pub over_phase : (now : ℕ) (p : Phase) (outstanding : numbers.FinMap nat_cmp Request) (number : ℕ) (request : Request) → SuitPhase p outstanding → numbers.get outstanding number ≡ Some request → is_over now p ≡ false
 over_phase now (phase.InitSent sent) outstanding number request suits there = refl
 over_phase now (phase.AuthSent sent) outstanding number request suits there = refl
 over_phase now (phase.HalfOpen opened) outstanding number request suits there = absurd (suits number request there)

@@ -1,4 +1,4 @@
-use Rattle.std.proofs.Common.{arith, ℕ, ap, ◌+◌, ◌∙◌}
+use Rattle.std.proofs.Common.{arith}
 use Rattle.laws_recovery.proofs.CountingLemmas as counting
 use Rattle.laws_recovery.proofs.laws.a_request_goes_out_six_times.Goals as goal
 

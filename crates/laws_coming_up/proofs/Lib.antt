@@ -1,0 +1,17 @@
+mod StepLemmas
+mod SealedLemmas
+mod AnsweringLemmas
+mod TableLemmas
+mod OfferLemmas
+mod PayloadLemmas
+mod EndingLemmas
+mod MeantLemmas
+mod AcceptingLemmas
+mod ChildLemmas
+mod ResponderLemmas
+mod ConcludingLemmas
+mod InitiatorLemmas
+mod BringingLemmas
+mod WorkedLemmas
+mod CarryingLemmas
+mod CoverLemmas

@@ -1,0 +1,4 @@
+pub mod ComingUp
+pub mod BringingUp
+pub mod Carrying
+pub mod WorkedTunnel

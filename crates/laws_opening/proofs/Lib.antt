@@ -1,0 +1,6 @@
+mod StepLemmas
+mod AskingLemmas
+mod AnsweringLemmas
+mod ReadingLemmas
+mod OpeningLemmas
+mod WorkedLemmas

@@ -1,0 +1,131 @@
+-- The worked run of a world begins with such an exchange.
+use Rattle.std.proofs.Common.{◌≡◌, ◌∷◌, List, [], None, map, ap, arith, refl, subst, sym, ◌∙◌}
+use Rattle.std.specs.Prelude.{replicate}
+use Rattle.effects.specs.Taking.{Meaning}
+use Rattle.gateway.specs.Histories.{IsPassage}
+use Rattle.gateway.specs.Inputs.{Event}
+use Rattle.gateway.specs.Inputs as input
+use Rattle.gateway.specs.Outputs.{wants_memory, OutputView, Reply, Request}
+use Rattle.gateway.specs.States.{IsSoundState, State}
+use Rattle.gateway.specs.Steps.{Traces}
+use Rattle.gateway.specs.WorldHistories.{passage_at, Happening, IsWorldTrail}
+use Rattle.gateway.specs.Worlds.{gateway_at, storing, with_gateway, Stored, TakesEvent, WorldState}
+use Rattle.gateway.specs.declared.world.stored.End.{End}
+use Rattle.gateway.specs.declared.world.stored.End.TheVariants.{A, B}
+use Rattle.laws_two_ends.specs.WorkedRecords.{fresh_of}
+use Rattle.laws_two_ends.specs.WorkedRuns.{comes_to, config_at, events_of, new_ends, outputs_of, run_meaning, IsRunFromNewGateways}
+use Rattle.laws_opening.specs.Opening.{CanOpen, IsExchange, PutsOut}
+use Rattle.laws_opening.proofs.OpeningLemmas.{is_beside}
+use Rattle.laws_opening.specs.Worked.{first_entry, worked_side, IsWorkedOpening}
+
+-- ---- a step of the world is one of its end, and leaves the other as it was
+
+module _ {C : Type 0} (meaning_of : C → Meaning) where
+  abbrev Happens : Happening C → Type 0
+  Happens h = TakesEvent meaning_of h.event h.before h.said h.after
+
+  put_at : (end : End) (gateway : State C) (stored : Stored) (world : WorldState C) → gateway_at end (with_gateway end gateway stored world) ≡ gateway
+  put_at A gateway stored world = refl
+  put_at B gateway stored world = refl
+
+  its_passage : (end : End) (h : Happening C) → h.event.end ≡ end → Happens h → IsPassage meaning_of (passage_at end h)
+  its_passage end h is happens =
+      let stored : Stored = storing h.event.end h.said happens.trace happens.gateway h.before.stored in
+      let leads : gateway_at end h.after ≡ happens.gateway =
+      ap (λ (w : WorldState C). gateway_at end w) happens.content
+      ∙ ap (λ (e : End). gateway_at end (with_gateway e happens.gateway stored h.before)) is
+      ∙ put_at end happens.gateway stored h.before in
+      let traces : Traces (meaning_of (gateway_at end h.before).caller) h.event.input (gateway_at end h.before) h.said happens.trace happens.gateway =
+      subst (λ (e : End). Traces (meaning_of (gateway_at e h.before).caller) h.event.input (gateway_at e h.before) h.said happens.trace happens.gateway) is happens.traces in
+      record {
+        sound = subst (λ (e : End). IsSoundState (gateway_at e h.before)) is happens.sound;
+        steps = record {
+          trace = happens.trace;
+          traces = subst (λ (g : State C). Traces (meaning_of (gateway_at end h.before).caller) h.event.input (gateway_at end h.before) h.said happens.trace g)
+              (sym leads) traces;
+        };
+      }
+
+  a_stays : (h : Happening C) → h.event.end ≡ B → Happens h → h.after.a ≡ h.before.a
+  a_stays h is happens =
+      ap (λ (w : WorldState C). w.a) happens.content
+      ∙ ap (λ (e : End). (with_gateway e happens.gateway (storing h.event.end h.said happens.trace happens.gateway h.before.stored) h.before).a) is
+
+  b_stays : (h : Happening C) → h.event.end ≡ A → Happens h → h.after.b ≡ h.before.b
+  b_stays h is happens =
+      ap (λ (w : WorldState C). w.b) happens.content
+      ∙ ap (λ (e : End). (with_gateway e happens.gateway (storing h.event.end h.said happens.trace happens.gateway h.before.stored) h.before).b) is
+
+-- ---- the first three steps
+
+module _ {C : Type 0} (a b : C) (run : IsRunFromNewGateways a b) where
+  abbrev means : C → Meaning
+  means = λ _. run_meaning
+
+  can : CanOpen run_meaning (worked_side A) 0 first_entry (fresh_of 1) (fresh_of 2) (replicate 32 0)
+  can = record {
+    protects = refl;
+    asking_drawn = record { named = (run.fresh 1 (omega arith) (omega arith)).named; secret = (run.fresh 1 (omega arith) (omega arith)).secret };
+    answering_drawn = record { named = (run.fresh 2 (omega arith) (omega arith)).named; secret = (run.fresh 2 (omega arith) (omega arith)).secret };
+    agrees = refl;
+  }
+
+  begins_so : (hs : List (Happening C)) → map (λ (h : Happening C). h.event) hs ≡ events_of run.exchanged → map (λ (h : Happening C). h.said) hs ≡ outputs_of run.exchanged
+      → IsWorldTrail means (new_ends a b) hs run.last → IsWorkedOpening a b
+  begins_so [] takes says trail = absurd cc
+  begins_so (h ∷ []) takes says trail = absurd cc
+  begins_so (h ∷ g ∷ []) takes says trail = absurd cc
+  begins_so (h ∷ g ∷ k ∷ rest) takes says trail =
+      let told : h.event ≡ record { end = A; input = input.Start None 0 (fresh_of 1) } = cc in
+      let came : g.event ≡ comes_to B run.exchanged.init_request 2 = cc in
+      let came_back : k.event ≡ comes_to A run.exchanged.init_response 3 = cc in
+      let asked : h.said ≡ Request 1 run.exchanged.init_request = cc in
+      let answered : g.said ≡ Reply run.exchanged.init_response None = cc in
+      let identified : k.said ≡ Request 1 run.exchanged.auth_request = cc in
+      let at_h : h.event.end ≡ A = ap (λ (e : Event). e.end) told in
+      let at_g : g.event.end ≡ B = ap (λ (e : Event). e.end) came in
+      let at_k : k.event.end ≡ A = ap (λ (e : Event). e.end) came_back in
+      let first : Happens means h = trail.1 in
+      let second : Happens means g = trail.2.1 in
+      let third : Happens means k = trail.2.2.1 in
+      let between : g.before ≡ h.after = trail.2.0 in
+      let later : k.before ≡ g.after = trail.2.2.0 in
+      let exchange : IsExchange means (worked_side A) (worked_side B) a b 0 (fresh_of 1) (fresh_of 2) (fresh_of 3) (passage_at A h) (passage_at B g) (passage_at A k) =
+      record {
+        begins = its_passage means A h at_h first;
+        told = record {
+          new = ap (λ (w : WorldState C). w.a) trail.0;
+          given = ap (λ (e : Event). e.input) told;
+          memory = ap wants_memory asked;
+        };
+        request = run.exchanged.init_request;
+        sent = subst (λ (said : OutputView). PutsOut said run.exchanged.init_request) (sym asked) refl;
+        answers = its_passage means B g at_g second;
+        asked = record {
+          new = ap (λ (w : WorldState C). w.b) between ∙ b_stays means h at_h first ∙ ap (λ (w : WorldState C). w.b) trail.0;
+          address = (config_at A).own.address;
+          given = ap (λ (e : Event). e.input) came;
+          memory = ap wants_memory answered;
+        };
+        response = run.exchanged.init_response;
+        sent_back = subst (λ (said : OutputView). PutsOut said run.exchanged.init_response) (sym answered) refl;
+        reads = its_passage means A k at_k third;
+        waits = ap (λ (w : WorldState C). w.a) later ∙ a_stays means g at_g second ∙ ap (λ (w : WorldState C). w.a) between;
+        address = (config_at B).own.address;
+        given = ap (λ (e : Event). e.input) came_back;
+        memory = ap wants_memory identified;
+      } in
+      record {
+        p = passage_at A h;
+        q = passage_at B g;
+        r = passage_at A k;
+        shared = replicate 32 0;
+        can_be = run.can_be;
+        can = can;
+        exchange = exchange;
+        beside = is_beside means run_meaning (worked_side A) (worked_side B) a b 0 first_entry (fresh_of 1) (fresh_of 2) (fresh_of 3) (replicate 32 0) (passage_at A h)
+            (passage_at B g) (passage_at A k) can exchange;
+      }
+
+  pub is_met : IsWorkedOpening a b
+  is_met = begins_so run.happenings run.takes run.says run.trail

@@ -1,0 +1,9 @@
+use Rattle.effects.specs.Taking.{meaning_of}
+use Rattle.laws_opening.proofs.ReadingLemmas.{takes_up_beside}
+use Rattle.laws_opening.proofs.laws.a_gateway_that_waits_takes_the_answer_up.Goals as goal
+
+pub returns : goal.returns
+returns g c = λ asking answering reading shared address request response child r.
+    takes_up_beside c.octets_spell_one_message.ensures.message c.plain_spellings_are_spellings.ensures.message c.what_is_spelled_has_no_fault.ensures
+    c.offers_are_answered.ensures.offers c.answers_are_determined.ensures.response
+    (meaning_of g.C.Sealer g.C.Agreement g.C.Proof) asking answering reading shared address request response child r c.both_ends_have_one_record.ensures.read

@@ -1,0 +1,5 @@
+pub mod Opened
+pub mod Exchanged
+pub mod Opening
+pub mod Beside
+pub mod Worked
