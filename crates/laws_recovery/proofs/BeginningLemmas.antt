@@ -13,7 +13,7 @@ use Rattle.policy.specs.declared.entry.Entry.{Entry}
 use Rattle.suite.specs.declared.fresh.Fresh.{Fresh}
 use Rattle.requests.specs.Outgoing.{none_issued, OwnRequests}
 use Rattle.sa_init.specs.Judging.{ASSOCIATION_LIMIT}
-use Rattle.sadb.specs.Database.{Database, IsFull, IsSpent}
+use Rattle.sadb.specs.Database.{Database, IsAsBefore, IsFull, IsSpent}
 use Rattle.association.specs.Issuing.{IssuesNext}
 use Rattle.association.specs.declared.phase.Association.{Association}
 use Rattle.association.specs.declared.phase.Request.{Request}
@@ -21,7 +21,8 @@ use Rattle.effects.specs.Taking.{Meaning}
 use Rattle.ike.specs.Faults as faults
 use Rattle.ike.specs.Machines.{association_of, has_own_spi, has_serial, is_bad_spi, own_spi, Held, SERIAL_END}
 use Rattle.ike.specs.Starting.{beginning_fault, beginning_fault_of, if_protects, new_association_fault, protecting, BeginsBy, GivesNoSpi, RefusesBeginning}
-use Rattle.ike.specs.Machines.{setup_at}
+use Rattle.ike.specs.Machines.{setup_at, Machine}
+use Rattle.gateway.specs.Strangers.{IsAsItWas}
 use Rattle.ike.specs.Steps as ike
 use Rattle.ike.specs.declared.fault.IkeFault.{IkeFault}
 use Rattle.ike.specs.declared.fault.IkeFault.TheVariants as fault
@@ -126,10 +127,16 @@ module _ {C : Type 0} (meaning_of : C → Meaning) (place : ℕ) (fresh : Fresh)
   does : StepsIke (meaning_of p.before.caller) p.before.entries (ike.Start None place fresh) p.before.machine p.before.table p.said is.steps.trace p.after.machine p.after.table
   does = subst (λ (i : Input). DoesInput (meaning_of p.before.caller) p.before.entries i p.before.machine p.before.table p.said is.steps.trace p.after.machine p.after.table) given is.steps.traces.does
 
+  as_it_was : p.after.machine ≡ p.before.machine → IsAsBefore p.before.table p.after.table → IsAsItWas p.before p.after
+  as_it_was machine table = record {
+    content = is.steps.traces.kept ∙ ap (λ (m : Machine). record p.before { machine = m; table = p.after.table }) machine;
+    table = table;
+  }
+
   -- a step that is done begins an IKE SA
   begins_by : (stepped : Stepped) → p.said ≡ view_of_ike stepped.output
       → BeginsBy (meaning_of p.before.caller) (setup_at p.before.machine p.before.entries fresh) place p.before.machine.held p.before.table stepped p.after.machine.held p.after.table
-      → BeginsAnew fresh p
+      → BeginsAnew (meaning_of p.before.caller) fresh p
   begins_by stepped said by =
       let held = ap (λ (h : Held). h.associations) by.done.content in
       let new : Association = _ in
@@ -140,6 +147,7 @@ module _ {C : Type 0} (meaning_of : C → Meaning) (place : ℕ) (fresh : Fresh)
       omega (arith, given_before, same)) in
       record {
         octets = by.beginning.octets;
+        spelled = by.begins.spelled;
         said = said ∙ ap (λ (s : Stepped). view_of_ike s.output) by.done.said;
         association = new;
         held = held;
@@ -148,10 +156,13 @@ module _ {C : Type 0} (meaning_of : C → Meaning) (place : ℕ) (fresh : Fresh)
         spi = by.begins.spi;
         sent = _;
         begun = refl;
+        secret = by.begins.secret;
+        nonce = by.begins.nonce_is;
         request = _;
         waits = record { association = new; there = there; waits = issued_waits none_issued _ by.beginning.outgoing by.begins.issued };
         octets_are = refl;
         timer = refl;
+        table = record { between = by.between; room = by.room; spi = by.done.spi; reserved = by.done.reserved };
       }
 
   allowed_by : (stepped : Stepped)
@@ -196,23 +207,23 @@ module _ {C : Type 0} (meaning_of : C → Meaning) (place : ℕ) (fresh : Fresh)
   refused_for may why (inl said) = absurd (none-some why (sym (none_against may) ∙ said))
   refused_for may why (inr none) = for_memory may why none.1
 
-  may_by : MayBegin place fresh p.before → wants_memory p.said ≡ false → BeginsAnew fresh p
+  may_by : MayBegin place fresh p.before → wants_memory p.said ≡ false → BeginsAnew (meaning_of p.before.caller) fresh p
   may_by may memory = elim does [
     | inl answers ↦ begins_by answers.stepped answers.output answers.steps.1
     | inr refuses ↦ absurd (both_ways (wants_memory p.said) memory (ap wants_memory refuses.output ∙ refused_for may refuses.fault refuses.refuses))
   ]
 
-  only : BeginsAnew fresh p → MayBegin place fresh p.before
+  only : BeginsAnew (meaning_of p.before.caller) fresh p → MayBegin place fresh p.before
   only begun = elim does [
     | inl answers ↦ allowed_by answers.stepped answers.steps.1
     | inr refuses ↦ absurd (let wrong : output.Refused (reason.Ike refuses.fault) ≡ output.Request p.before.machine.held.next begun.octets = sym refuses.output ∙ begun.said in cc)
   ]
 
-  pub exactly : BeginsAnew fresh p ↔ ((wants_memory p.said ≡ false) × MayBegin place fresh p.before)
+  pub exactly : BeginsAnew (meaning_of p.before.caller) fresh p ↔ ((wants_memory p.said ≡ false) × MayBegin place fresh p.before)
   exactly = ((λ begun. (ap wants_memory begun.said, only begun)), (λ both. may_by both.1 both.0))
 
-  pub either : BeginsAnew fresh p ⊎ IsRefused p
+  pub either : BeginsAnew (meaning_of p.before.caller) fresh p ⊎ IsRefused p
   either = elim does [
     | inl answers ↦ inl (begins_by answers.stepped answers.output answers.steps.1)
-    | inr refuses ↦ inr (record { why = reason.Ike refuses.fault; said = refuses.output; unchanged = refuses.machine })
+    | inr refuses ↦ inr (record { why = reason.Ike refuses.fault; said = refuses.output; unchanged = as_it_was refuses.machine refuses.pairs })
   ]

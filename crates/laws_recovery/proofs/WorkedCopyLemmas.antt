@@ -80,6 +80,7 @@ module _ {C : Type 0} (laws : SoundLaws) (config : Config) (caller : C) (from : 
 
   pub worked : IsWorkedLoss config caller from fresh
   worked = record {
+    can_be = exchange.can_be;
     happenings = all;
     new = six.after;
     trail = (refl, one_is, (refl, two_is, (refl, three_is, (refl, four_is, (refl, five_is, (refl, six_is, refl))))));

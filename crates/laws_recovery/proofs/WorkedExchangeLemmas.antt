@@ -401,6 +401,7 @@ module _ {C : Type 0} (laws : SoundLaws) (config : Config) (caller : C) (from : 
   pub worked : IsWorkedRequest config caller from fresh → IsWorkedExchange config caller from fresh
   unfolding until_first until_second
   worked exchange = record {
+    can_be = exchange.can_be;
     repeated = record { until = until_first; again = out_again 0 0 1000 };
     ends = record { keys = worked_keys; one_keyed = refl; other_keyed = refl; spi_i = refl; spi_r = refl; roles = refl };
     established = record { keys = worked_keys; is = refl };

@@ -34,7 +34,7 @@ use Rattle.gateway.specs.Histories.{IsPassage}
 use Rattle.gateway.specs.Inputs as input
 use Rattle.gateway.specs.Outputs.{Ticked}
 use Rattle.gateway.specs.States.{IsSoundState}
-use Rattle.gateway.specs.WorkedRequests.{gateway_with, worked_key, worked_meaning, worked_request}
+use Rattle.gateway.specs.WorkedRequests.{gateway_with, worked_key, worked_meaning, worked_request, CanBeMeant}
 use Rattle.gateway.specs.WorkedWorlds.{asking_association}
 use Rattle.laws_recovery.specs.WorkedRecovery.{all_protected, closed_at, gateway_then, goes_out_at, request_sent, waiting_since, IsWorkedRecovery}
 use Rattle.laws_recovery.specs.Waiting.{WaitsBefore}
@@ -299,8 +299,8 @@ module _ {C : Type 0} (laws : SoundLaws) (config : Config) (entries_of : List En
   waits_so sent repeats now = record { association = waiting_since sent repeats; there = refl; waits = its_request sent repeats }
 
 module _ {C : Type 0} (laws : SoundLaws) (config : Config) (caller : C) where
-  pub worked : IsSoundState (gateway_then config all_protected caller 0 (waiting_since 0 0 ∷ [])) → IsWorkedRecovery config caller
-  worked zeroth =
+  pub worked : CanBeMeant worked_meaning → IsSoundState (gateway_then config all_protected caller 0 (waiting_since 0 0 ∷ [])) → IsWorkedRecovery config caller
+  worked can_be zeroth =
       let first = sound_then laws config all_protected caller 0 1000 _ _ _ _ (tick_one laws config all_protected caller) zeroth in
       let second = sound_then laws config all_protected caller 1000 3000 _ _ _ _ (tick_two laws config all_protected caller) first in
       let third = sound_then laws config all_protected caller 3000 7000 _ _ _ _ (tick_three laws config all_protected caller) second in
@@ -308,6 +308,7 @@ module _ {C : Type 0} (laws : SoundLaws) (config : Config) (caller : C) where
       let fifth = sound_then laws config all_protected caller 15000 31000 _ _ _ _ (tick_five laws config all_protected caller) fourth in
       let sixth = sound_then laws config all_protected caller 31000 47000 _ _ _ _ (tick_six laws config all_protected caller) fifth in
       record {
+        can_be = can_be;
         trail = (
           refl,
           passage_by laws config all_protected caller 0 1000 _ _ _ _ (tick_one laws config all_protected caller) zeroth,

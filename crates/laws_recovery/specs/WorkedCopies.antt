@@ -7,7 +7,7 @@ use Rattle.requests.specs.Incoming.{IsFreshRequest, IsLeftBehind}
 use Rattle.association.specs.Phases.{IsEstablished}
 use Rattle.setup.specs.declared.config.Config.{Config}
 use Rattle.gateway.specs.Outputs.{wants_memory}
-use Rattle.gateway.specs.WorkedRequests.{first_taken, one_more_taken, request_comes, worked_association, worked_meaning, worked_reply}
+use Rattle.gateway.specs.WorkedRequests.{first_taken, one_more_taken, request_comes, worked_association, worked_meaning, worked_reply, CanBeMeant}
 use Rattle.gateway.specs.WorldHistories.{Happening, IsWorldTrail}
 use Rattle.gateway.specs.Worlds.{nothing_stored, WorldState}
 use Rattle.gateway.specs.declared.world.stored.End.TheVariants.{A, B}
@@ -23,6 +23,7 @@ idle_world {C} config caller from fresh =
 -- arrives at B while the request is new there, the second after B has processed it. The response arrives at
 -- A while the request waits.
 pub record IsWorkedLoss {C : Type 0} (config : Config) (caller : C) (from : Octets) (fresh : Fresh) : Type 0 where
+  pub can_be : CanBeMeant worked_meaning
   pub happenings : List (Happening C)
   pub new : WorldState C
   pub trail : IsWorldTrail (λ _. worked_meaning) (idle_world config caller from fresh) happenings new

@@ -14,7 +14,7 @@ use Rattle.gateway.specs.Histories.{IsPassage, IsTrail, Passage}
 use Rattle.gateway.specs.Inputs as input
 use Rattle.gateway.specs.Outputs.{Counted, Repeat, Request}
 use Rattle.gateway.specs.Requests.{for_ike, AnswersBy, OnlySays, TakesEffect}
-use Rattle.gateway.specs.WorkedRequests.{first_taken, one_more_taken, request_comes, request_comes_again, worked_association, worked_meaning, worked_reply, worked_request}
+use Rattle.gateway.specs.WorkedRequests.{first_taken, one_more_taken, request_comes, request_comes_again, worked_association, worked_meaning, worked_reply, worked_request, CanBeMeant}
 use Rattle.gateway.specs.WorkedWorlds.{asking_association}
 use Rattle.gateway.specs.Worlds.{IsFreshlyGiven}
 use Rattle.laws_recovery.specs.Copies.{AreEndsOfOne, ArrivesAt, IsMatched, IsRepeated, WaitsUntil}
@@ -61,8 +61,10 @@ is_answered {C} config caller from fresh = record {
 
 -- The end that asks sends two copies more. The first arrives at the other end, which has not processed the
 -- request yet. It is processed there and answered. The second arrives there, and gets the response again,
--- which arrives at the end that asked, and is matched.
+-- which arrives at the end that asked, and is matched. The cipher hides nothing, and all laws of the
+-- provider's traits hold.
 pub record IsWorkedExchange {C : Type 0} (config : Config) (caller : C) (from : Octets) (fresh : Fresh) : Type 0 where
+  pub can_be : CanBeMeant worked_meaning
   pub repeated : IsRepeated (λ _. worked_meaning) 1 2 idle_association worked_request (probes config caller fresh) [] (first_copy config caller)
   pub ends : AreEndsOfOne idle_association (worked_association first_taken)
   pub established : IsEstablished (worked_association first_taken).phase

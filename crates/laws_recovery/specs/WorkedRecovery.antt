@@ -20,7 +20,7 @@ use Rattle.gateway.specs.Histories.{IsTrail, Passage}
 use Rattle.gateway.specs.Inputs as input
 use Rattle.gateway.specs.Outputs.{Ticked}
 use Rattle.gateway.specs.States.{new_gateway, State}
-use Rattle.gateway.specs.WorkedRequests.{worked_keys, worked_meaning, worked_request}
+use Rattle.gateway.specs.WorkedRequests.{worked_keys, worked_meaning, worked_request, CanBeMeant}
 use Rattle.gateway.specs.WorkedWorlds.{asked_request, asking_association}
 use Rattle.laws_recovery.specs.Beginning.{MayBegin}
 use Rattle.laws_recovery.specs.Removing.{ClosedBefore, IsRemoved}
@@ -99,6 +99,7 @@ is_removed {C} config caller = record {
 -- is waited for throughout, and is given up. The IKE SA is removed, and then another may begin, by any fresh
 -- SPI but zero.
 pub record IsWorkedRecovery {C : Type 0} (config : Config) (caller : C) : Type 0 where
+  pub can_be : CanBeMeant worked_meaning
   pub trail : IsTrail (λ _. worked_meaning) (gateway_then config all_protected caller 0 (waiting_since 0 0 ∷ [])) (all_go_out config caller ++ is_given_up config caller ∷ is_removed config caller ∷ [])
       (gateway_then config all_protected caller 167000 [])
   pub waits_first : WaitsBefore 1 2 (request_sent 0 0) (goes_out_at config all_protected caller 0 0 1000)

@@ -91,7 +91,7 @@ pub fn what_waits_goes_out_again<C>()
 /// - `counted`: it has the octets with which it went out first, and counts as sent again as often as it went
 ///   out again.
 /// - `six`: where it counts as sent for the last time and no answer came in time, so that its IKE SA is
-///   closed for it with the next moment that is told, it went out again five times.
+///   closed for it with the next time that is told, it went out again five times.
 ///
 /// A request of IKE_SA_INIT is left out, since a cookie begins its count anew.
 pub fn a_request_goes_out_six_times<C>()
@@ -114,12 +114,13 @@ pub fn a_request_goes_out_six_times<C>()
     what_is_due_comes_in_time();
 }
 
-/// Whatever was lost or closed before, `Start` leads to a new IKE SA (RFC 7296, section 1.2). Of every step
-/// of every history of a gateway with this input:
+/// Whatever was lost or closed before, by `Start` a new IKE SA begins (RFC 7296, section 1.2). That both ends
+/// then come to keys is said in `laws_opening`. That it is established is said of new gateways alone, in
+/// `laws_coming_up`. Of every step of every history of a gateway with this input:
 ///
 /// - `exactly`: an IKE SA begins, its request of IKE_SA_INIT goes out, and waits for its answer, exactly
 ///   where one may begin and there is memory.
-/// - `either`: where none begins the input is refused, and the machine of IKE is as it was.
+/// - `either`: where none begins the input is refused, and the gateway is as it was, but for spare room.
 ///
 /// An IKE SA may begin at a gateway that holds fewer than 128, has a serial left, and a table with a place
 /// and an SPI left, by an entry that protects and a fresh SPI that is usable. What was held before, and what
@@ -127,10 +128,11 @@ pub fn a_request_goes_out_six_times<C>()
 pub fn start_begins_anew<C>()
     ensures exactly { (meaning_of : C → Meaning) (place : ℕ) (fresh : Fresh) (p : Passage C)
         → IsPassage meaning_of p → p.given ≡ input.Start None place fresh
-        → BeginsAnew fresh p ↔ ((wants_memory p.said ≡ false) × MayBegin place fresh p.before) }
+        → BeginsAnew (meaning_of p.before.caller) fresh p
+        ↔ ((wants_memory p.said ≡ false) × MayBegin place fresh p.before) }
     ensures either { (meaning_of : C → Meaning) (place : ℕ) (fresh : Fresh) (p : Passage C)
         → IsPassage meaning_of p → p.given ≡ input.Start None place fresh
-        → BeginsAnew fresh p ⊎ IsRefused p }
+        → BeginsAnew (meaning_of p.before.caller) fresh p ⊎ IsRefused p }
 {}
 
 /// What is said here of steps and histories of a gateway holds of each end of a world. Each event of a world

@@ -27,8 +27,8 @@
 //! `ResponseLemmas` finds of which exchange a response is and for which IKE SA, and `MatchingLemmas` that it
 //! is matched. `WorldCopyLemmas` takes these steps out of what took place in a world.
 //!
-//! `BeginningLemmas` takes the definition of `Start` apart. `WorkedRecoveryLemmas`, `WorkedExchangeLemmas` and
-//! `WorkedCopyLemmas` play the worked histories.
+//! `BeginningLemmas` takes the definition of `Start` apart. `WorkedRecoveryLemmas`, `WorkedExchangeLemmas`
+//! and `WorkedCopyLemmas` play the worked histories.
 #![tactic(auto)]
 
 pub mod laws;
