@@ -3,6 +3,7 @@ mod LawLemmas
 mod RunLemmas
 mod GroupLemmas
 mod LayingLemmas
+pub mod RowLemmas
 mod QuietLemmas
 pub mod WorldLemmas
 mod WorldHistoryLemmas

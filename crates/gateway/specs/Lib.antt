@@ -8,6 +8,7 @@ pub mod Steps
 pub mod Runs
 pub mod Groups
 pub mod Laying
+pub mod Rows
 pub mod Worlds
 pub mod WorldHistories
 pub mod WorldParties

@@ -1,5 +1,6 @@
 //! A gateway, and one step of it.
-ghost use Rattle.std.specs.Prelude.{◌≡◌, ◌<◌, ◌≤◌, IfSome, length, map};
+ghost use Rattle.std.specs.Prelude.{◌≡◌, ◌+◌, ◌<◌, ◌≤◌, IfSome, IsOk, length, map, vec_len};
+ghost use Rattle.std.specs.Vec.{vec_capacity};
 ghost use Rattle.std.specs.Option.{option_copied};
 ghost use Rattle.sadb.specs.Database.{IsSoundTable, IsStart};
 ghost use Rattle.ike.specs.Machines.{keys_of_serial};
@@ -14,6 +15,7 @@ ghost use Rattle.gateway.specs.Laying.{finished_output, finished_outputs};
 ghost use Rattle.gateway.specs.Lengths.{AreGiven};
 ghost use Rattle.gateway.specs.Once.{HasOneResult};
 ghost use Rattle.gateway.specs.Outputs.{output_view};
+ghost use Rattle.gateway.specs.Rows.{AppendsTo, finished_row, octets_of};
 ghost use Rattle.gateway.specs.States.{new_gateway};
 ghost use Rattle.gateway.specs.Steps.{Steps, Traces};
 ghost use Rattle.effects.specs.Taking.{meaning_of};
@@ -22,8 +24,9 @@ ghost use Rattle.moments.specs.Next.{NothingIsDueBefore, SomethingIsDue};
 use crate::given::{tell_their_lengths, tells_its_lengths};
 use crate::laws::steps_are_determined;
 use crate::laying::finish_all;
-use crate::stepping::{lay, take};
-use crate::{Ahead, Input, Output, Traced};
+use crate::row::finish_row;
+use crate::stepping::{lay, lay_behind, take};
+use crate::{Ahead, Input, Laid, Output, Span, Traced};
 use association::Association;
 use esp::{GROUP, PACKETS_LEAST, Precomputed};
 use flows::FlowMemory;
@@ -33,7 +36,7 @@ use ike::laws::{keys_stay_whole, no_spi_is_lost, what_is_due_comes_in_time};
 use policy::Policy;
 use sadb::Table;
 use setup::Config;
-use std::alloc::Global;
+use std::alloc::{AllocError, Global};
 use std::marker::Model;
 use suite::{Agreement, KeyRecord, Proof, Sealer};
 
@@ -264,5 +267,46 @@ impl<C: Sealer + Agreement + Proof> Gateway<C> {
         ensures { laid.new ≡ finished_outputs self.now.table.pairs laid.old }
     {
         finish_all(&self.table, laid, self.lanes);
+    }
+
+    /// Takes an outbound packet as [`lay`](Gateway::lay) does, but appends the ESP packet to what stands in a
+    /// buffer. So those of a list stand one behind the other, and take memory only where the buffer has to
+    /// grow. [`finish_behind`](Gateway::finish_behind) writes their ICVs.
+    ///
+    /// The only error is that there is no memory for the ESP packet: a step would refuse the packet then
+    /// ([`Reason::Memory`](crate::Reason), E20). The buffer stays as it was then, and also where the packet
+    /// doesn't go protected.
+    pub fn lay_behind<'a>(
+        &mut self,
+        packet: &'a [u8],
+        out: &mut Vec<u8>,
+    ) -> Result<Laid<'a>, AllocError>
+        ensures traced { AppendsTo
+            (λ said. Traces
+            (meaning_of C.Sealer C.Agreement C.Proof self.old.caller)
+            (Outward packet.now) self.old said no_trace self.new)
+            out.old.items result self.new.table.pairs out.new.items }
+        ensures senders { KeepsSenders self.old.table.pairs self.new.table.pairs }
+        ensures room { vec_len out.old + (length packet.now + 29) ≤ vec_capacity out.old → IsOk result }
+    {
+        lay_behind(
+            packet,
+            &self.ike,
+            &mut self.table,
+            &mut self.flows,
+            &self.policy,
+            out,
+        )
+    }
+
+    /// Writes the ICV into each of up to 64 ESP packets that [`lay_behind`](Gateway::lay_behind) appended,
+    /// one behind the other from the buffer's beginning on; what stands behind them stays. Else as
+    /// [`finish`](Gateway::finish).
+    pub fn finish_behind(&self, spans: &[Span], packets: &mut [u8])
+        requires few { length spans.now ≤ GROUP }
+        requires whole { octets_of spans.now ≤ length packets.old }
+        ensures { packets.new ≡ finished_row self.now.table.pairs spans.now packets.old }
+    {
+        finish_row(&self.table, spans, packets, self.lanes);
     }
 }

@@ -1,5 +1,6 @@
 //! One input of each kind.
-ghost use Rattle.std.specs.Prelude.{◌≡◌, IfSome, MatchOption};
+ghost use Rattle.std.specs.Prelude.{◌≡◌, ◌+◌, ◌≤◌, IfSome, IsOk, MatchOption, length, vec_len};
+ghost use Rattle.std.specs.Vec.{vec_capacity};
 ghost use Rattle.esp.specs.Precomputed.{IsPrecomputed};
 ghost use Rattle.flows.specs.Memory.{AllRight, HoldsNone};
 ghost use Rattle.flows.specs.Staying.{NoneComes};
@@ -10,6 +11,7 @@ ghost use Rattle.gateway.specs.Groups.{packet_in};
 ghost use Rattle.gateway.specs.Inputs.{input_view};
 ghost use Rattle.gateway.specs.Laying.{finished_output};
 ghost use Rattle.gateway.specs.Outputs.{output_view};
+ghost use Rattle.gateway.specs.Rows.{AppendsTo};
 ghost use Rattle.sadb.specs.Laying.{KeepsSenders};
 ghost use Rattle.gateway.specs.Steps.{AdmitsPacket, DoesInput, SendsPacket, StepsIke};
 ghost use Rattle.effects.specs.Taking.{meaning_of};
@@ -26,10 +28,10 @@ use ike::laws::{
 use ike::{Ike, IkeInput, MadeChild};
 use policy::Policy;
 use sadb::Table;
-use std::alloc::Global;
+use std::alloc::{AllocError, Global};
 use suite::{Agreement, Proof, Sealer};
 use traffic::laws::{no_pair_comes, senders_stay};
-use traffic::{admit, receive_ahead};
+use traffic::{Laid, admit, receive_ahead};
 
 // Takes an input of any kind, an ESP packet with its ICV where that was computed ahead.
 pub(crate) fn take<'a, C: Sealer + Agreement + Proof>(
@@ -197,6 +199,50 @@ pub(crate) fn lay<'a>(
     soundness_asks_for_reservations();
     no_spi_is_lost();
     lay_packet(alloc, table, flows, policy, packet)
+}
+
+/// Lays an outbound packet, and appends its ESP packet to a buffer.
+pub(crate) fn lay_behind<'a>(
+    packet: &'a [u8],
+    ike: &Ike,
+    table: &mut Table,
+    flows: &mut FlowMemory,
+    policy: &Policy,
+    out: &mut Vec<u8>,
+) -> Result<Laid<'a>, AllocError>
+    requires sound { IsSoundMachine ike.now table.old }
+    requires reservations { AreReservationsHeld ike.now.held table.old }
+    requires right { AllRight policy.now table.old.pairs flows.old }
+    ensures sent { AppendsTo (λ said. SendsPacket policy.now table.old packet.now said table.new)
+        out.old.items result table.new.pairs out.new.items }
+    ensures sound { IsSoundMachine ike.now table.new }
+    ensures reservations { AreReservationsHeld ike.now.held table.new }
+    ensures right { AllRight policy.now table.new.pairs flows.new }
+    ensures senders { KeepsSenders table.old.pairs table.new.pairs }
+    ensures room { vec_len out.old + (length packet.now + 29) ≤ vec_capacity out.old → IsOk result }
+{
+    soundness_asks_for_reservations();
+    no_spi_is_lost();
+    append_packet(table, flows, policy, packet, out)
+}
+
+fn append_packet<'a>(
+    table: &mut Table,
+    flows: &mut FlowMemory,
+    policy: &Policy,
+    packet: &'a [u8],
+    out: &mut Vec<u8>,
+) -> Result<Laid<'a>, AllocError>
+    requires { AllRight policy.now table.old.pairs flows.old }
+    ensures sent { AppendsTo (λ said. SendsPacket policy.now table.old packet.now said table.new)
+        out.old.items result table.new.pairs out.new.items }
+    ensures reserved { table.new.reserved ≡ table.old.reserved }
+    ensures right { AllRight policy.now table.new.pairs flows.new }
+    ensures senders { KeepsSenders table.old.pairs table.new.pairs }
+    ensures room { vec_len out.old + (length packet.now + 29) ≤ vec_capacity out.old → IsOk result }
+{
+    senders_stay();
+    traffic::lay_behind(table, flows, policy, packet, out)
 }
 
 fn send_packet<'a>(

@@ -1,7 +1,9 @@
 -- Packets on their way out that are laid first, and get their ICVs and their places in the room afterwards.
-use Rattle.std.proofs.Common.{◌≡◌, ◌+◌, ◌-◌, ◌<◌, ◌≤◌, ℕ, zero, suc, List, [], ◌∷◌, ◌++◌, length, take, drop, arith, get_or, refl, sym, ap, ◌∙◌, subst, inl, inr, Option, Some, None, append_assoc, length-append, length-drop}
+use Rattle.std.proofs.Common.{◌≡◌, ◌+◌, ◌-◌, ◌≤◌, ℕ, List, [], ◌∷◌, ◌++◌, length, take, drop, arith, refl, sym, ap, ◌∙◌, subst, inl, inr, Option, Some, None, append_assoc, length-append, length-drop}
+use Rattle.std.specs.Prelude.{Result, Ok, Err}
+use Rattle.std.specs.declared.alloc.AllocError.{AllocError}
 use Rattle.std.proofs.lemmas.Bool.{cases_lt}
-use Rattle.std.proofs.lemmas.List.{append-nil, drop-drop, drop_all, drop_at, flat_map_more, length-map, length-take-le, map-append, take-append-drop, take_all, take_at, take_rest}
+use Rattle.std.proofs.lemmas.List.{append-nil, drop-drop, drop_all, drop_at, length-take-le, take-append-drop, take_all, take_at, take_rest}
 use borrow.Rule.Slice.PartMut.{put_mid}
 use Rattle.base.specs.Octets.{Octets}
 use Rattle.caller_peer.specs.declared.shared_key.PeerCaller.{PeerCaller}
@@ -9,21 +11,23 @@ use Rattle.esp.proofs.FinishLemmas.{finished_long, finished_short}
 use Rattle.esp.specs.Laying.{finished}
 use Rattle.esp.specs.Packet.{check_value}
 use Rattle.esp.specs.declared.sa.Sa.{Sa}
-use Rattle.effects.specs.Taking.{Meaning}
 use Rattle.gateway.specs.Inputs.{Outward}
-use Rattle.gateway.specs.Laying.{finished_output, finished_outputs, octets_in}
-use Rattle.gateway.specs.Outputs.{output_view}
+use Rattle.gateway.specs.Outputs.{OutputView}
+use Rattle.gateway.specs.Rows.{AppendsTo, IsAppendedIf, finished_row, octets_of, said_of_laid}
 use Rattle.gateway.specs.Runs.{Runs}
 use Rattle.gateway.specs.States.{State}
 use Rattle.gateway.specs.Steps.{Traces}
-use Rattle.gateway.specs.declared.output.Output.{Output}
-use Rattle.gateway.specs.declared.output.Output.TheVariants as output
+use Rattle.gateway.specs.declared.row.Span.{Span}
+use Rattle.gateway.proofs.RowLemmas.{row_more, row_same}
 use Rattle.ike.specs.Outputs.{no_trace}
 use Rattle.mac.proofs.HmacLemmas.{length-icv_sha256}
 use Rattle.sadb.specs.Database.{PairMap}
-use Rattle.sadb.specs.Laying.{KeepsSenders, finished_by, sender_at}
+use Rattle.sadb.specs.Laying.{KeepsSenders, finished_at, finished_by, sender_at}
+use Rattle.traffic.specs.Behind.{IsAppended}
+use Rattle.traffic.specs.declared.departure.Laid.{Laid}
+use Rattle.traffic.specs.declared.departure.Laid.TheVariants as laid
 use Rattle.sukperin.proofs.OutwardLemmas.{sealed_fits}
-use Rattle.sukperin.specs.Lists.{EachIs, HasRoomBehind, IsPacketAt, IsPlaceRefusal, LaysGroup, LaysNext, RunsOver, Sent, SealsAll, TakesOut, TakesOutAt, TakesOutGroup, TakesOutOver, packet_at, packets_of, sent_in, told_from}
+use Rattle.sukperin.specs.Lists.{HasRoomBehind, IsPacketAt, IsPlaceRefusal, LaysGroup, LaysNext, RunsOver, Sent, SealsAll, TakesOut, TakesOutAt, TakesOutGroup, TakesOutOver, no_span, packet_at, span_of_laid, told_from, told_of_laid}
 use Rattle.sukperin.specs.Meaning.{meaning_for}
 use Rattle.sukperin.specs.Outputs.{of_kind, refused_alone}
 use Rattle.sukperin.specs.Outward.{HasRoom, sealed_in}
@@ -52,196 +56,185 @@ finished_size_by : (sender : Option Sa) (n : ℕ) (octets : Octets) → length (
 finished_size_by None n octets = refl
 finished_size_by (Some a) n octets = finished_size a n octets
 
--- what is told of an output is told of it once it is finished
-told_finished : (pairs : PairMap) (begin : ℕ) (o : Output) → told_from begin (output_view (finished_output pairs o)) no_trace ≡ told_from begin (output_view o) no_trace
-told_finished pairs begin (output.Sealed child number octets) =
-    ap (λ (k : ℕ). record (of_kind 9) { child = child; number = number; offset = begin; length = k }) (finished_size_by (sender_at pairs child) number octets)
-told_finished pairs begin (output.Reply octets closed) = refl
-told_finished pairs begin (output.Repeat octets) = refl
-told_finished pairs begin (output.Request serial octets) = refl
-told_finished pairs begin (output.Counted serial child closed) = refl
-told_finished pairs begin (output.Ticked requests closed) = refl
-told_finished pairs begin output.Done = refl
-told_finished pairs begin (output.Up child number packet) = refl
-told_finished pairs begin (output.Dummy child number) = refl
-told_finished pairs begin (output.Clear packet) = refl
-told_finished pairs begin output.Discarded = refl
-told_finished pairs begin (output.Dropped why) = refl
-told_finished pairs begin (output.Refused why) = refl
+-- the same of several in a row
+row_size : (pairs : PairMap) (spans : List Span) (octets : Octets) → length (finished_row pairs spans octets) ≡ length octets
+row_size pairs [] octets = refl
+row_size pairs (s ∷ ss) octets =
+    let first : Octets = take s.length octets in
+    let rest : Octets = drop s.length octets in
+    let whole = length-append (finished_at pairs s.child s.number first) (finished_row pairs ss rest) in
+    let one = finished_size_by (sender_at pairs s.child) s.number first in
+    let two = row_size pairs ss rest in
+    let parts = sym (length-append first rest) ∙ ap length (take-append-drop s.length octets) in
+    omega arith
 
-size_finished : (pairs : PairMap) (o : Output) → length (octets_in (finished_output pairs o)) ≡ length (octets_in o)
-size_finished pairs (output.Sealed child number octets) = finished_size_by (sender_at pairs child) number octets
-size_finished pairs (output.Reply octets closed) = refl
-size_finished pairs (output.Repeat octets) = refl
-size_finished pairs (output.Request serial octets) = refl
-size_finished pairs (output.Counted serial child closed) = refl
-size_finished pairs (output.Ticked requests closed) = refl
-size_finished pairs output.Done = refl
-size_finished pairs (output.Up child number packet) = refl
-size_finished pairs (output.Dummy child number) = refl
-size_finished pairs (output.Clear packet) = refl
-size_finished pairs output.Discarded = refl
-size_finished pairs (output.Dropped why) = refl
-size_finished pairs (output.Refused why) = refl
+empty_is : (octets : Octets) → length octets ≡ 0 → octets ≡ []
+empty_is [] none = refl
+empty_is (x ∷ xs) none = absurd (omega arith)
 
--- the ESP packet of an output is that of what contracts see
-sealed_is : (o : Output) → sealed_in (output_view o) ≡ octets_in o
-sealed_is (output.Sealed child number octets) = refl
-sealed_is (output.Reply octets closed) = refl
-sealed_is (output.Repeat octets) = refl
-sealed_is (output.Request serial octets) = refl
-sealed_is (output.Counted serial child closed) = refl
-sealed_is (output.Ticked requests closed) = refl
-sealed_is output.Done = refl
-sealed_is (output.Up child number packet) = refl
-sealed_is (output.Dummy child number) = refl
-sealed_is (output.Clear packet) = refl
-sealed_is output.Discarded = refl
-sealed_is (output.Dropped why) = refl
-sealed_is (output.Refused why) = refl
+finished_none : (pairs : PairMap) (octets : Octets) → octets ≡ [] → finished_at pairs 0 0 octets ≡ []
+finished_none pairs octets none = empty_is (finished_at pairs 0 0 octets) (finished_size_by (sender_at pairs 0) 0 octets ∙ ap length none)
+
+-- the ESP packet of a packet that was laid is its part of the buffer, once it has its ICV
+span_sealed : (pairs : PairMap) (n : ℕ) (what : Laid) (octets : Octets) → IsAppended what octets
+    → finished_at pairs (span_of_laid n what).child (span_of_laid n what).number octets ≡ sealed_in (said_of_laid pairs (Ok what) octets)
+span_sealed pairs n (laid.Sealed child number) octets is = refl
+span_sealed pairs n (laid.Clear packet) octets is = finished_none pairs octets is
+span_sealed pairs n laid.Discarded octets is = finished_none pairs octets is
+span_sealed pairs n (laid.Dropped fault) octets is = finished_none pairs octets is
+
+span_size : (n : ℕ) (what : Laid) (octets : Octets) → n ≡ length octets → IsAppended what octets → (span_of_laid n what).length ≡ length octets
+span_size n (laid.Sealed child number) octets is none = is
+span_size n (laid.Clear packet) octets is none = sym (ap length none)
+span_size n laid.Discarded octets is none = sym (ap length none)
+span_size n (laid.Dropped fault) octets is none = sym (ap length none)
+
+-- what is told of it is told of the packet with its ICV
+told_laid : (pairs : PairMap) (begin n : ℕ) (what : Laid) (octets : Octets) → n ≡ length octets → told_of_laid begin n what ≡ told_from begin (said_of_laid pairs (Ok what) octets) no_trace
+told_laid pairs begin n (laid.Sealed child number) octets is =
+    ap (λ (k : ℕ). record (of_kind 9) { child = child; number = number; offset = begin; length = k }) (is ∙ sym (finished_size_by (sender_at pairs child) number octets))
+told_laid pairs begin n (laid.Clear packet) octets is = refl
+told_laid pairs begin n laid.Discarded octets is = refl
+told_laid pairs begin n (laid.Dropped fault) octets is = refl
 
 -- ---- one packet more is laid
 
--- while no SA pair comes or goes, an output is finished in the same way
-same_output : (old new : PairMap) → KeepsSenders old new → (o : Output) → finished_output new o ≡ finished_output old o
-same_output old new keeps (output.Sealed child number octets) = ap (λ (s : Option Sa). output.Sealed child number (finished_by s number octets)) (keeps.each child)
-same_output old new keeps (output.Reply octets closed) = refl
-same_output old new keeps (output.Repeat octets) = refl
-same_output old new keeps (output.Request serial octets) = refl
-same_output old new keeps (output.Counted serial child closed) = refl
-same_output old new keeps (output.Ticked requests closed) = refl
-same_output old new keeps output.Done = refl
-same_output old new keeps (output.Up child number packet) = refl
-same_output old new keeps (output.Dummy child number) = refl
-same_output old new keeps (output.Clear packet) = refl
-same_output old new keeps output.Discarded = refl
-same_output old new keeps (output.Dropped why) = refl
-same_output old new keeps (output.Refused why) = refl
-
-same_outputs : (old new : PairMap) → KeepsSenders old new → (os : List Output) → finished_outputs new os ≡ finished_outputs old os
-same_outputs old new keeps [] = refl
-same_outputs old new keeps (o ∷ os) =
-    ap (λ (x : Output). x ∷ finished_outputs new os) (same_output old new keeps o) ∙ ap (λ (xs : List Output). finished_output old o ∷ xs) (same_outputs old new keeps os)
-
-sent_more : (old new : PairMap) (laid : List Output) (o : Output) → KeepsSenders old new → sent_in new (laid ++ o ∷ []) ≡ sent_in old laid ++ octets_in (finished_output new o)
-sent_more old new laid o keeps =
-    ap packets_of (map-append (finished_output new) laid (o ∷ []) ∙ ap (λ (xs : List Output). xs ++ finished_output new o ∷ []) (same_outputs old new keeps laid))
-    ∙ sym (flat_map_more octets_in [] (finished_outputs old laid) (finished_output new o))
-
-pub lays_taken : (octets : Octets) (room : ℕ) (place : SukPlace) (begin : ℕ) (packet : Octets) (old new : State PeerCaller) (laid after : List Output) (o : Output) (told : SukOutput) (size end : ℕ)
-    → begin ≤ room → IsPacketAt octets place packet → HasRoom packet (room - begin)
-    → Traces (meaning_for old.caller) (Outward packet) old (output_view (finished_output new.table.pairs o)) no_trace new → KeepsSenders old.table.pairs new.table.pairs
-    → told ≡ told_from begin (output_view o) no_trace → size ≡ length (octets_in o) → end ≡ begin + size → after ≡ laid ++ o ∷ []
-    → LaysNext octets room place begin old laid told end new after
-lays_taken octets room place begin packet old new laid after o told size end within at enough traces keeps told_is size_is end_is after_is =
-    let done : Output = finished_output new.table.pairs o in
-    let same : sealed_in (output_view done) ≡ octets_in done = sealed_is done in
-    let more : sent_in new.table.pairs after ≡ sent_in old.table.pairs laid ++ octets_in done = ap (sent_in new.table.pairs) after_is ∙ sent_more old.table.pairs new.table.pairs laid o keeps in
-    let short : length (sealed_in (output_view done)) ≤ length packet + 29 = sealed_fits (meaning_for old.caller) packet (output_view done) no_trace old new traces in
-    let long : length (octets_in done) ≡ length (octets_in o) = size_finished new.table.pairs o in
-    let same_long : length (sealed_in (output_view done)) ≡ length (octets_in done) = ap length same in
-    let whole : length (sent_in new.table.pairs after) ≡ length (sent_in old.table.pairs laid) + length (octets_in done) = ap length more ∙ length-append (sent_in old.table.pairs laid) (octets_in done) in
+-- a packet is laid as this part of the buffer
+lays_as : (octets : Octets) (room : ℕ) (place : SukPlace) (used begin : ℕ) (packet : Octets) (old new : State PeerCaller) (buffer after appended : Octets) (said : OutputView) (told : SukOutput) (span : Span)
+    → begin ≡ used + length buffer → begin ≤ room → IsPacketAt octets place packet → HasRoom packet (room - begin)
+    → Traces (meaning_for old.caller) (Outward packet) old said no_trace new → KeepsSenders old.table.pairs new.table.pairs
+    → after ≡ buffer ++ appended → span.length ≡ length appended → finished_at new.table.pairs span.child span.number appended ≡ sealed_in said → told ≡ told_from begin said no_trace
+    → LaysNext octets room place used old buffer told span new after
+lays_as octets room place used begin packet old new buffer after appended said told span begin_is within at enough traces keeps after_is size sealed told_is =
+    let short : length (sealed_in said) ≤ length packet + 29 = sealed_fits (meaning_for old.caller) packet said no_trace old new traces in
+    let same_long = sym (finished_size_by (sender_at new.table.pairs span.child) span.number appended) ∙ ap length sealed in
+    let whole : length after ≡ length buffer + length appended = ap length after_is ∙ length-append buffer appended in
     record {
-      takes = λ before here.
-          let begins : length (before ++ sent_in old.table.pairs laid) ≡ begin = length-append before (sent_in old.table.pairs laid) ∙ here in
+      takes = λ before spans here full.
+          let row : Octets = finished_row old.table.pairs spans buffer in
+          let long : length row ≡ length buffer = row_size old.table.pairs spans buffer in
+          let begins : length (before ++ row) ≡ begin = length-append before row ∙ (omega arith) in
           let there : packet ≡ packet_at octets place = at.packet_is in
-          let behind : HasRoomBehind (packet_at octets place) (before ++ sent_in old.table.pairs laid) room = subst (λ (p : Octets). HasRoomBehind p (before ++ sent_in old.table.pairs laid) room) there (omega arith) in
-          let taken : TakesOut packet (record { gateway = old; octets = before ++ sent_in old.table.pairs laid }) told (record { gateway = new; octets = before ++ sent_in new.table.pairs after }) = record {
-            said = output_view done;
+          let behind : HasRoomBehind (packet_at octets place) (before ++ row) room = subst (λ (p : Octets). HasRoomBehind p (before ++ row) room) there (omega arith) in
+          let more : finished_row new.table.pairs (spans ++ span ∷ []) after ≡ row ++ sealed_in said =
+          ap (finished_row new.table.pairs (spans ++ span ∷ [])) after_is
+          ∙ row_more new.table.pairs spans span buffer appended full size
+          ∙ ap (λ (xs : Octets). xs ++ finished_at new.table.pairs span.child span.number appended) (row_same old.table.pairs new.table.pairs keeps spans buffer)
+          ∙ ap (λ (xs : Octets). row ++ xs) sealed
+          in
+          let taken : TakesOut packet (record { gateway = old; octets = before ++ row }) told (record { gateway = new; octets = before ++ finished_row new.table.pairs (spans ++ span ∷ []) after }) = record {
+            said = said;
             trace = no_trace;
             traces = traces;
-            octets = ap (λ (xs : Octets). before ++ xs) more ∙ sym (append_assoc before (sent_in old.table.pairs laid) (octets_in done)) ∙ ap (λ (xs : Octets). (before ++ sent_in old.table.pairs laid) ++ xs) (sym same);
-            told_is = told_is ∙ sym (told_finished new.table.pairs begin o) ∙ ap (λ (k : ℕ). told_from k (output_view done) no_trace) (sym begins);
+            octets = ap (λ (xs : Octets). before ++ xs) more ∙ sym (append_assoc before row (sealed_in said));
+            told_is = told_is ∙ ap (λ (k : ℕ). told_from k said no_trace) (sym begins);
           } in
-          inl (at.within, behind, subst (λ (p : Octets). TakesOut p (record { gateway = old; octets = before ++ sent_in old.table.pairs laid }) told (record { gateway = new; octets = before ++ sent_in new.table.pairs after })) there taken);
-      longer = omega arith;
+          inl (at.within, behind, subst (λ (p : Octets). TakesOut p (record { gateway = old; octets = before ++ row }) told (record { gateway = new; octets = before ++ finished_row new.table.pairs (spans ++ span ∷ []) after })) there taken);
+      longer = whole ∙ ap (λ (k : ℕ). length buffer + k) (sym size);
       fits = omega arith;
     }
 
+pub lays_taken : (octets : Octets) (room : ℕ) (place : SukPlace) (used begin : ℕ) (packet : Octets) (old new : State PeerCaller) (buffer after : Octets) (result : Result Laid AllocError) (what : Laid) (n : ℕ) (told : SukOutput) (span : Span)
+    → begin ≡ used + length buffer → begin ≤ room → IsPacketAt octets place packet → HasRoom packet (room - begin)
+    → AppendsTo (λ said. Traces (meaning_for old.caller) (Outward packet) old said no_trace new) buffer result new.table.pairs after → KeepsSenders old.table.pairs new.table.pairs
+    → result ≡ Ok what → n ≡ length after - length buffer → told ≡ told_of_laid begin n what → span ≡ span_of_laid n what
+    → LaysNext octets room place used old buffer told span new after
+lays_taken octets room place used begin packet old new buffer after result what n told span begin_is within at enough lays keeps is n_is told_is span_is =
+    let pairs : PairMap = new.table.pairs in
+    let a : Octets = lays.appended in
+    let whole : length after ≡ length buffer + length a = ap length lays.after_is ∙ length-append buffer a in
+    let size : n ≡ length a = omega arith in
+    let only : IsAppended what a = subst (λ (r : Result Laid AllocError). IsAppendedIf r a) is lays.is_appended in
+    let traces = subst (λ (r : Result Laid AllocError). Traces (meaning_for old.caller) (Outward packet) old (said_of_laid pairs r a) no_trace new) is lays.said in
+    let own : Span = span_of_laid n what in
+    subst (λ (s : Span). LaysNext octets room place used old buffer told s new after) (sym span_is)
+    (lays_as octets room place used begin packet old new buffer after a (said_of_laid pairs (Ok what) a) told own begin_is within at enough traces keeps lays.after_is
+    (span_size n what a size only) (span_sealed pairs n what a only) (told_is ∙ told_laid pairs begin n what a size))
+
+-- there is no memory for it
+pub lays_lacking : (octets : Octets) (room : ℕ) (place : SukPlace) (used begin : ℕ) (packet : Octets) (old new : State PeerCaller) (buffer after : Octets) (result : Result Laid AllocError) (e : AllocError) (told : SukOutput) (span : Span)
+    → begin ≡ used + length buffer → begin ≤ room → IsPacketAt octets place packet → HasRoom packet (room - begin)
+    → AppendsTo (λ said. Traces (meaning_for old.caller) (Outward packet) old said no_trace new) buffer result new.table.pairs after → KeepsSenders old.table.pairs new.table.pairs
+    → result ≡ Err e → told ≡ refused_alone Memory → span ≡ no_span
+    → LaysNext octets room place used old buffer told span new after
+lays_lacking octets room place used begin packet old new buffer after result e told span begin_is within at enough lays keeps is told_is span_is =
+    let pairs : PairMap = new.table.pairs in
+    let a : Octets = lays.appended in
+    let only : a ≡ [] = subst (λ (r : Result Laid AllocError). IsAppendedIf r a) is lays.is_appended in
+    let traces = subst (λ (r : Result Laid AllocError). Traces (meaning_for old.caller) (Outward packet) old (said_of_laid pairs r a) no_trace new) is lays.said in
+    subst (λ (s : Span). LaysNext octets room place used old buffer told s new after) (sym span_is)
+    (lays_as octets room place used begin packet old new buffer after a (said_of_laid pairs (Err e) a) told no_span begin_is within at enough traces keeps lays.after_is
+    (sym (ap length only)) (finished_none pairs a only) told_is)
+
+-- a packet that is refused leaves what was sent
+abbrev the_sent : State PeerCaller → Octets → Sent
+the_sent gateway octets = record { gateway = gateway; octets = octets }
+
+refused_at : (octets : Octets) (room : ℕ) (place : SukPlace) (begin : ℕ) (gateway : State PeerCaller) (sent after : Octets) (told : SukOutput) (why : Refusal) → length sent ≡ begin
+    → IsPlaceRefusal octets place (room - begin) why → told ≡ refused_alone why → the_sent gateway after ≡ the_sent gateway sent → TakesOutAt octets room place (the_sent gateway sent) told (the_sent gateway after)
+refused_at octets room place begin gateway sent after told why begins (inl away) told_is unchanged =
+    inr (inl (away.0, record { told_is = told_is ∙ ap refused_alone away.1; unchanged = unchanged }))
+refused_at octets room place begin gateway sent after told why begins (inr short) told_is unchanged =
+    let less : HasRoomBehind (packet_at octets place) sent room → ⊥ = λ h. short.1 (omega arith) in
+    inr (inr (inl (short.0, less, record { told_is = told_is ∙ ap refused_alone short.2; unchanged = unchanged })))
+
 -- one is refused, so nothing is laid
-pub lays_refused : (octets : Octets) (room : ℕ) (place : SukPlace) (begin : ℕ) (old : State PeerCaller) (laid : List Output) (told : SukOutput) (why : Refusal)
-    → begin ≤ room → IsPlaceRefusal octets place (room - begin) why → told ≡ refused_alone why → LaysNext octets room place begin old laid told begin old laid
-lays_refused octets room place begin old laid told why within (inl away) told_is = record {
-  takes = λ before here. inr (inl (away.0, record { told_is = told_is ∙ ap refused_alone away.1; unchanged = refl }));
-  longer = refl;
-  fits = within;
-}
-lays_refused octets room place begin old laid told why within (inr short) told_is = record {
-  takes = λ before here.
-      let begins : length (before ++ sent_in old.table.pairs laid) ≡ begin = length-append before (sent_in old.table.pairs laid) ∙ here in
-      let less : HasRoomBehind (packet_at octets place) (before ++ sent_in old.table.pairs laid) room → ⊥ = λ h. short.1 (omega arith) in
-      inr (inr (inl (short.0, less, record { told_is = told_is ∙ ap refused_alone short.2; unchanged = refl })));
-  longer = refl;
-  fits = within;
-}
-
--- ---- no memory for a group
-
-pub refused_run : (octets : Octets) (room : ℕ) (places : List SukPlace) (outs : List SukOutput) (state : Sent) → length outs ≡ length places → EachIs (refused_alone Memory) outs
-    → Runs (TakesOutAt octets room) places outs state state
-refused_run octets room [] [] state long all = refl
-refused_run octets room (place ∷ places) (out ∷ outs) state long all = (
-  state,
-  inr (inr (inr (record { told_is = all.each 0 out (omega arith); unchanged = refl }))),
-  refused_run octets room places outs state (omega arith) (record { each = λ k d below. all.each (suc k) d (omega arith) }),
-)
-refused_run octets room [] (out ∷ outs) state long all = absurd (omega arith)
-refused_run octets room (place ∷ places) [] state long all = absurd (omega arith)
+pub lays_refused : (octets : Octets) (room : ℕ) (place : SukPlace) (used begin : ℕ) (old : State PeerCaller) (buffer : Octets) (told : SukOutput) (span : Span) (why : Refusal)
+    → begin ≡ used + length buffer → begin ≤ room → IsPlaceRefusal octets place (room - begin) why → told ≡ refused_alone why → span ≡ no_span → LaysNext octets room place used old buffer told span old buffer
+lays_refused octets room place used begin old buffer told span why begin_is within refused told_is span_is =
+    let same : (spans : List Span) → octets_of spans ≡ length buffer → finished_row old.table.pairs (spans ++ no_span ∷ []) buffer ≡ finished_row old.table.pairs spans buffer = λ spans full.
+    ap (finished_row old.table.pairs (spans ++ no_span ∷ [])) (sym (append-nil buffer))
+    ∙ row_more old.table.pairs spans no_span buffer [] full refl
+    ∙ ap (λ (xs : Octets). finished_row old.table.pairs spans buffer ++ xs) (finished_none old.table.pairs [] refl)
+    ∙ append-nil (finished_row old.table.pairs spans buffer)
+    in
+    subst (λ (s : Span). LaysNext octets room place used old buffer told s old buffer) (sym span_is) (record {
+      takes = λ before spans here full.
+          let row : Octets = finished_row old.table.pairs spans buffer in
+          let long : length row ≡ length buffer = row_size old.table.pairs spans buffer in
+          let begins : length (before ++ row) ≡ begin = length-append before row ∙ (omega arith) in
+          let unchanged = ap (λ (xs : Octets). the_sent old (before ++ xs)) (same spans full) in
+          refused_at octets room place begin old (before ++ row) (before ++ finished_row old.table.pairs (spans ++ no_span ∷ []) buffer) told why begins refused told_is unchanged;
+      longer = omega arith;
+      fits = omega arith;
+    })
 
 -- ---- what is written
 
--- one packet more
-pub written_more : (room now : Octets) (begin at behind : ℕ) (xs : List Output) (o : Output) (next : Octets)
-    → begin ≤ length room → at ≡ begin + length (packets_of xs) → at + length (octets_in o) ≤ length room → now ≡ take begin room ++ (packets_of xs ++ drop at room) → behind ≡ at + length (octets_in o)
-    → next ≡ take at now ++ (octets_in o ++ drop (at + length (octets_in o)) now)
-    → (next ≡ take begin room ++ (packets_of (xs ++ o ∷ []) ++ drop behind room)) × (behind ≡ begin + length (packets_of (xs ++ o ∷ [])))
-written_more room now begin at behind xs o next within at_is fits now_is behind_is next_is =
-    let ps : Octets = packets_of xs in
-    let b : Octets = octets_in o in
-    let front : Octets = take begin room ++ ps in
-    let now_split : now ≡ front ++ drop at room = now_is ∙ sym (append_assoc (take begin room) ps (drop at room)) in
-    let first : length (take begin room) ≡ begin = length-take-le begin room within in
-    let long : length front ≡ at = length-append (take begin room) ps ∙ (omega arith) in
-    let taken : take at now ≡ front = ap (take at) now_split ∙ take_at front (drop at room) at long in
-    let dropped : drop (at + length b) now ≡ drop (at + length b) room =
-    sym (drop-drop (length b) at now) ∙ ap (drop (length b)) (ap (drop at) now_split ∙ drop_at front (drop at room) at long) ∙ drop-drop (length b) at room
-    in
-    let more : packets_of (xs ++ o ∷ []) ≡ ps ++ b = sym (flat_map_more octets_in [] xs o) in
-    let whole : length (packets_of (xs ++ o ∷ [])) ≡ length ps + length b = ap length more ∙ length-append ps b in (
-      next_is
-          ∙ ap (λ (ys : Octets). ys ++ (b ++ drop (at + length b) now)) taken
-          ∙ ap (λ (ys : Octets). front ++ (b ++ ys)) (dropped ∙ ap (λ (k : ℕ). drop k room) (sym behind_is))
-          ∙ append_assoc (take begin room) ps (b ++ drop behind room)
-          ∙ ap (λ (ys : Octets). take begin room ++ ys) (sym (append_assoc ps b (drop behind room)))
-          ∙ ap (λ (ys : Octets). take begin room ++ (ys ++ drop behind room)) (sym more),
-      omega arith,
-    )
-
 -- a group's packets are in the room
-pub group_written : (octets : Octets) (places : List SukPlace) (room filled : Octets) (used end : ℕ) (old new : State PeerCaller) (told : List SukOutput) (laid after : List Output)
-    → used ≤ length room → LaysGroup octets places room used old end new told laid → after ≡ finished_outputs new.table.pairs laid
-    → filled ≡ take used room ++ (packets_of after ++ drop (used + length (packets_of after)) room)
+pub group_written : (octets : Octets) (places : List SukPlace) (room filled : Octets) (used end : ℕ) (old new : State PeerCaller) (told : List SukOutput) (spans : List Span) (buffer done : Octets)
+    → used ≤ length room → LaysGroup octets places room used old new told spans buffer → done ≡ finished_row new.table.pairs spans buffer → end ≡ used + length done
+    → filled ≡ take used room ++ (done ++ drop (used + length done) room)
     → TakesOutGroup octets places used old room end new told filled
-group_written octets places room filled used end old new told laid after within lays after_is filled_is =
-    let ps : Octets = sent_in new.table.pairs laid in
-    let same : packets_of after ≡ ps = ap packets_of after_is in
-    let front : Octets = take used room ++ ps in
+group_written octets places room filled used end old new told spans buffer done within lays done_is end_is filled_is =
+    let size : length done ≡ length buffer = ap length done_is ∙ row_size new.table.pairs spans buffer in
+    let enough = lays.fits in
+    let front : Octets = take used room ++ done in
     let first : length (take used room) ≡ used = length-take-le used room within in
-    let e = lays.end_is in
-    let long : length front ≡ end = length-append (take used room) ps ∙ omega arith in
+    let long : length front ≡ end = length-append (take used room) done ∙ omega arith in
     let split : filled ≡ front ++ drop end room =
     filled_is
-    ∙ ap (λ (xs : Octets). take used room ++ (xs ++ drop (used + length xs) room)) same
-    ∙ ap (λ (k : ℕ). take used room ++ (ps ++ drop k room)) (sym lays.end_is)
-    ∙ sym (append_assoc (take used room) ps (drop end room))
+    ∙ ap (λ (k : ℕ). take used room ++ (done ++ drop k room)) (sym end_is)
+    ∙ sym (append_assoc (take used room) done (drop end room))
     in
     record {
       runs = subst (λ (xs : Octets). Runs (TakesOutAt octets (length room)) places told (record { gateway = old; octets = take used room }) (record { gateway = new; octets = xs }))
-          (sym (ap (take end) split ∙ take_at front (drop end room) end long)) lays.runs;
+          (ap (λ (xs : Octets). take used room ++ xs) (sym done_is) ∙ sym (ap (take end) split ∙ take_at front (drop end room) end long)) lays.runs;
       begins = omega arith;
-      fits = lays.fits;
+      fits = omega arith;
       behind = ap (drop end) split ∙ drop_at front (drop end room) end long;
     }
+
+-- packets that were lent and finished
+pub row_lent : (pairs : PairMap) (spans : List Span) (len : ℕ) (items xs ys : Octets) → xs ≡ items → len ≡ length items → ys ≡ finished_row pairs spans xs
+    → take len (ys ++ drop (length ys) items) ≡ finished_row pairs spans items
+row_lent pairs spans len items xs ys same long is =
+    let done : ys ≡ finished_row pairs spans items = is ∙ ap (finished_row pairs spans) same in
+    let size : length ys ≡ length items = ap length done ∙ row_size pairs spans items in
+    ap (λ (zs : Octets). take len (ys ++ zs)) (drop_all (length ys) items (omega arith))
+    ∙ ap (take len) (append-nil ys)
+    ∙ take_all len ys (omega arith)
+    ∙ done
 
 -- ---- groups
 
@@ -287,61 +280,6 @@ written_at room octets part now at fits part_is now_is =
     ∙ ap (λ (xs : Octets). take at room ++ (octets ++ drop (length octets) xs)) (part_is ∙ take_rest room at)
     ∙ ap (λ (xs : Octets). take at room ++ (octets ++ xs)) (drop-drop (length octets) at room)
 
-nothing_written : (room : Octets) (at : ℕ) → room ≡ take at room ++ drop (at + 0) room
-nothing_written room at =
-    let same : at + 0 ≡ at = omega arith in
-    sym (take-append-drop at room) ∙ ap (λ (k : ℕ). take at room ++ drop k room) (sym same)
-
--- the same of an output's ESP packet
-pub packet_written : (room now slice octets : Octets) (at child number : ℕ) (o : Output) → o ≡ output.Sealed child number octets → slice ≡ octets → at + length (octets_in o) ≤ length room
-    → now ≡ slice ++ drop (length slice) (take (length room - at) (drop at room))
-    → put_mid at (length room - at) room now ≡ take at room ++ (octets_in o ++ drop (at + length (octets_in o)) room)
-packet_written room now slice octets at child number o is slice_is fits now_is =
-    let same : slice ≡ octets_in o = slice_is ∙ sym (ap octets_in is) in
-    let long = ap length same in
-    subst (λ (xs : Octets). put_mid at (length room - at) room now ≡ take at room ++ (xs ++ drop (at + length xs) room)) same
-    (written_at room slice (take (length room - at) (drop at room)) (put_mid at (length room - at) room now) at (omega arith) refl (ap (put_mid at (length room - at) room) now_is))
-
--- an output that has none
-pub none_written : (room : Octets) (at : ℕ) (o : Output) → ((child number : ℕ) (octets : Octets) → o ≡ output.Sealed child number octets → ⊥)
-    → room ≡ take at room ++ (octets_in o ++ drop (at + length (octets_in o)) room)
-none_written room at (output.Sealed child number octets) other = absurd (other child number octets refl)
-none_written room at (output.Reply octets closed) other = nothing_written room at
-none_written room at (output.Repeat octets) other = nothing_written room at
-none_written room at (output.Request serial octets) other = nothing_written room at
-none_written room at (output.Counted serial child closed) other = nothing_written room at
-none_written room at (output.Ticked requests closed) other = nothing_written room at
-none_written room at output.Done other = nothing_written room at
-none_written room at (output.Up child number packet) other = nothing_written room at
-none_written room at (output.Dummy child number) other = nothing_written room at
-none_written room at (output.Clear packet) other = nothing_written room at
-none_written room at output.Discarded other = nothing_written room at
-none_written room at (output.Dropped why) other = nothing_written room at
-none_written room at (output.Refused why) other = nothing_written room at
-
-pub part_fits : (laid : List Output) (i : ℕ) (o : Output) → i < length laid → o ≡ get_or laid i o → length (packets_of (take i laid)) + length (octets_in o) ≤ length (packets_of laid)
-part_fits [] i o within is = absurd (omega arith)
-part_fits (x ∷ xs) zero o within is =
-    let same = ap (λ (y : Output). length (octets_in y)) is in
-    let whole = length-append (octets_in x) (packets_of xs) in
-    omega arith
-part_fits (x ∷ xs) (suc i) o within is =
-    let rest = part_fits xs i o (omega arith) is in
-    let first = length-append (octets_in x) (packets_of (take i xs)) in
-    let whole = length-append (octets_in x) (packets_of xs) in
-    omega arith
-
--- outputs that were lent and finished
-pub whole_lent : (pairs : PairMap) (len : ℕ) (items xs ys : List Output) → xs ≡ items → len ≡ length items → ys ≡ finished_outputs pairs xs
-    → take len (ys ++ drop (length ys) items) ≡ finished_outputs pairs items
-whole_lent pairs len items xs ys same long is =
-    let done : ys ≡ finished_outputs pairs items = is ∙ ap (finished_outputs pairs) same in
-    let size : length ys ≡ length items = ap length done ∙ length-map items (finished_output pairs) in
-    ap (λ (zs : List Output). take len (ys ++ zs)) (drop_all (length ys) items (omega arith))
-    ∙ ap (take len) (append-nil ys)
-    ∙ take_all len ys (omega arith)
-    ∙ done
-
 -- ---- what a call answers
 
 pub seals_nothing : (octets : Octets) (places : List SukPlace) (end : End) (code : ℕ) (told : List SukOutput) (room : Octets) → ((hosted : Hosted) → end ≡ Gateway hosted → ⊥) → code ≡ 101
@@ -363,29 +301,8 @@ seals_of octets places state after end new code before told room filled was is d
 
 -- ---- what the loops keep
 
-pub laid_short : (meaning : Meaning) (packet : Octets) (o : Output) (old new : State PeerCaller) → Traces meaning (Outward packet) old (output_view (finished_output new.table.pairs o)) no_trace new
-    → length (octets_in o) ≤ length packet + 29
-laid_short meaning packet o old new traces =
-    let short = sealed_fits meaning packet (output_view (finished_output new.table.pairs o)) no_trace old new traces in
-    let same = ap length (sealed_is (finished_output new.table.pairs o)) ∙ size_finished new.table.pairs o in
-    omega arith
-
 -- nothing is laid yet
-pub begun : (octets : Octets) (places : List SukPlace) (outs : List SukOutput) (gateway : State PeerCaller) (room : Octets) (used : ℕ) (laid : List Output) → laid ≡ []
-    → Runs (TakesOutAt octets (length room)) (take 0 places) (take 0 outs) (record { gateway = gateway; octets = take used room }) (record { gateway = gateway; octets = take used room ++ sent_in gateway.table.pairs laid })
-begun octets places outs gateway room used laid none =
-    let state : Octets → Sent = λ xs. record { gateway = gateway; octets = xs } in
-    ap state (ap (λ (ls : List Output). take used room ++ sent_in gateway.table.pairs ls) none ∙ append-nil (take used room))
-
-pub none_laid : (pairs : PairMap) (laid : List Output) → laid ≡ [] → length (sent_in pairs laid) ≡ 0
-none_laid pairs laid none = ap (λ (ls : List Output). length (sent_in pairs ls)) none
-
--- a group for which there is no memory
-pub group_refused : (octets : Octets) (places : List SukPlace) (used : ℕ) (old : State PeerCaller) (room : Octets) (told : List SukOutput) → used ≤ length room → length told ≡ length places → EachIs (refused_alone Memory) told
-    → TakesOutGroup octets places used old room used old told room
-group_refused octets places used old room told within long all = record {
-  runs = refused_run octets (length room) places told (record { gateway = old; octets = take used room }) long all;
-  begins = omega arith;
-  fits = within;
-  behind = refl;
-}
+pub begun : (octets : Octets) (places : List SukPlace) (outs : List SukOutput) (gateway : State PeerCaller) (room : Octets) (used : ℕ) (spans : List Span) (buffer : Octets) → buffer ≡ []
+    → Runs (TakesOutAt octets (length room)) (take 0 places) (take 0 outs) (record { gateway = gateway; octets = take used room }) (record { gateway = gateway; octets = take used room ++ finished_row gateway.table.pairs (take 0 spans) buffer })
+begun octets places outs gateway room used spans buffer none =
+    ap (the_sent gateway) (ap (λ (xs : Octets). take used room ++ xs) none ∙ append-nil (take used room))

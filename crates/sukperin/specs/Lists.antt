@@ -1,21 +1,23 @@
 -- What calls with lists of packets do: one step after the other, in the order of the places.
-use Rattle.std.specs.Prelude.{◌≡◌, ◌⊎◌, ◌+◌, ◌<◌, ◌≤◌, ◌++◌, ℕ, List, Option, Some, [], flat_map, length, map, take, drop, slice_index_or}
+use Rattle.std.specs.Prelude.{◌≡◌, ◌⊎◌, ◌+◌, ◌<◌, ◌≤◌, ◌++◌, ◌∷◌, ℕ, List, Option, Some, [], length, map, take, drop, slice_index_or}
 use Rattle.base.specs.Octets.{Octets}
 use Rattle.caller_peer.specs.declared.shared_key.PeerCaller.{PeerCaller}
 use Rattle.gateway.specs.Groups.{packets_in}
 use Rattle.gateway.specs.Inputs.{Esp, Outward, input_view}
 use Rattle.gateway.specs.declared.input.Input as lent
-use Rattle.gateway.specs.Laying.{finished_outputs, octets_in}
 use Rattle.gateway.specs.Outputs.{OutputView}
 use Rattle.gateway.specs.Outputs as view
+use Rattle.gateway.specs.Rows.{finished_row, octets_of}
 use Rattle.gateway.specs.Runs.{Runs}
 use Rattle.gateway.specs.States.{State}
 use Rattle.gateway.specs.Steps.{Traces}
-use Rattle.gateway.specs.declared.output.Output.{Output}
+use Rattle.gateway.specs.declared.fault.Reason.TheVariants as reason
+use Rattle.gateway.specs.declared.row.Span.{Span}
 use Rattle.ike.specs.declared.output.Trace.{Trace}
-use Rattle.sadb.specs.Database.{PairMap}
+use Rattle.traffic.specs.declared.departure.Laid.{Laid}
+use Rattle.traffic.specs.declared.departure.Laid.TheVariants as laid
 use Rattle.sukperin.specs.Meaning.{meaning_for}
-use Rattle.sukperin.specs.Outputs.{refused_alone, told_of}
+use Rattle.sukperin.specs.Outputs.{of_kind, refused_alone, told_of, with_code}
 use Rattle.sukperin.specs.Outward.{HasRoom, filled_with, sealed_in}
 use Rattle.sukperin.specs.declared.end.End.{End}
 use Rattle.sukperin.specs.declared.end.End.TheVariants.{Gateway}
@@ -149,17 +151,24 @@ SealsAll octets places end code after before told room filled = (code ≡ 101) �
 
 -- ---- how it goes, a group at a time
 
--- this record in each place
-pub record EachIs (told : SukOutput) (outs : List SukOutput) : Type 0 where
-  pub each : (k : ℕ) (d : SukOutput) → k < length outs → slice_index_or outs k d ≡ told
+-- no part of a buffer
+abbrev pub no_span : Span
+no_span = record { child = 0; number = 0; length = 0 }
 
--- the ESP packets of outputs, one behind the other
-abbrev pub packets_of : List Output → Octets
-packets_of outputs = flat_map octets_in outputs
+-- the part of a buffer that the ESP packet of a packet is, of so many octets
+abbrev pub span_of_laid : ℕ → Laid → Span
+span_of_laid octets (laid.Sealed child number) = record { child = child; number = number; length = octets }
+span_of_laid octets (laid.Clear packet) = no_span
+span_of_laid octets laid.Discarded = no_span
+span_of_laid octets (laid.Dropped fault) = no_span
 
--- the same of outputs that were laid, once they have their ICVs
-abbrev pub sent_in : PairMap → List Output → Octets
-sent_in pairs laid = packets_of (finished_outputs pairs laid)
+-- what is told of a packet whose ESP packet, if it goes protected, begins here and has so many octets
+abbrev pub told_of_laid : ℕ → ℕ → Laid → SukOutput
+told_of_laid begin octets (laid.Sealed child number) =
+    record (of_kind 9) { child = child; number = number; offset = begin; length = octets }
+told_of_laid begin octets (laid.Clear packet) = record (of_kind 10) { length = length packet.now }
+told_of_laid begin octets laid.Discarded = of_kind 11
+told_of_laid begin octets (laid.Dropped fault) = with_code 12 (reason.Packet fault)
 
 -- why a packet isn't taken: its place doesn't lie in the buffer, or there is less room than it may need
 abbrev pub IsPlaceRefusal : Octets → SukPlace → ℕ → Refusal → Type 0
@@ -167,19 +176,19 @@ IsPlaceRefusal octets place room why =
     ((¬ LiesIn octets place) × (why ≡ Place))
     ⊎ (LiesIn octets place × (¬ HasRoom (packet_at octets place) room) × (why ≡ ShortRoom))
 
--- The packet at a place is taken, but that its ESP packet has no ICV yet. The ESP packets that were laid are
--- to stand behind any others that fill the room up to where they begin.
-pub record LaysNext (octets : Octets) (room : ℕ) (place : SukPlace) (begin : ℕ) (old : State PeerCaller) (laid : List Output) (told : SukOutput) (end : ℕ) (new : State PeerCaller) (after : List Output) : Type 0 where
-  pub takes : (before : Octets) → length before + length (sent_in old.table.pairs laid) ≡ begin
-      → TakesOutAt octets room place (record { gateway = old; octets = before ++ sent_in old.table.pairs laid }) told (record { gateway = new; octets = before ++ sent_in new.table.pairs after })
-  pub longer : end + length (sent_in old.table.pairs laid) ≡ begin + length (sent_in new.table.pairs after)
-  pub fits : end ≤ room
+-- The packet at a place is taken, but that its ESP packet has no ICV yet. It stands in the buffer behind those
+-- before it, and the buffer is to stand in the room behind what is used of it.
+pub record LaysNext (octets : Octets) (room : ℕ) (place : SukPlace) (used : ℕ) (old : State PeerCaller) (buffer : Octets) (told : SukOutput) (span : Span) (new : State PeerCaller) (after : Octets) : Type 0 where
+  pub takes : (before : Octets) (spans : List Span) → length before ≡ used → octets_of spans ≡ length buffer
+      → TakesOutAt octets room place (record { gateway = old; octets = before ++ finished_row old.table.pairs spans buffer }) told (record { gateway = new; octets = before ++ finished_row new.table.pairs (spans ++ span ∷ []) after })
+  pub longer : length after ≡ length buffer + span.length
+  pub fits : used + length after ≤ room
 
--- the same of the packets at several places, behind what is used of the room
-pub record LaysGroup (octets : Octets) (places : List SukPlace) (room : Octets) (used : ℕ) (old : State PeerCaller) (end : ℕ) (new : State PeerCaller) (told : List SukOutput) (laid : List Output) : Type 0 where
-  pub runs : Runs (TakesOutAt octets (length room)) places told (record { gateway = old; octets = take used room }) (record { gateway = new; octets = take used room ++ sent_in new.table.pairs laid })
-  pub end_is : end ≡ used + length (sent_in new.table.pairs laid)
-  pub fits : end ≤ length room
+-- the same of the packets at several places, in a buffer that was empty
+pub record LaysGroup (octets : Octets) (places : List SukPlace) (room : Octets) (used : ℕ) (old new : State PeerCaller) (told : List SukOutput) (spans : List Span) (buffer : Octets) : Type 0 where
+  pub runs : Runs (TakesOutAt octets (length room)) places told (record { gateway = old; octets = take used room }) (record { gateway = new; octets = take used room ++ finished_row new.table.pairs spans buffer })
+  pub whole : octets_of spans ≡ length buffer
+  pub fits : used + length buffer ≤ length room
 
 -- Packets are taken, and their ESP packets stand in the room behind what was used of it; behind them stands
 -- what stood there.

@@ -40,6 +40,8 @@ pub struct Hosted {
     pub left: Left,
     /// Whether it tells the keys of its IKE SAs.
     pub tells_keys: bool,
+    /// What a list of packets on their way out is laid in. It holds nothing between calls but its memory.
+    pub buffer: Items<u8>,
 }
 
 impl Left {

@@ -1,20 +1,13 @@
 //! Lists of packets, of which up to 64 at a time have their ICVs computed side by side.
-ghost use Rattle.std.specs.Prelude.{◌≡◌, ◌+◌, ◌<◌, ◌≤◌, ◌++◌, IfErr, IfOk, IfSome, MatchOption, [], drop};
-ghost use Rattle.std.specs.Prelude.{length, take, vec_len};
-ghost use Rattle.std.specs.Vec.{vec_capacity};
+ghost use Rattle.std.specs.Prelude.{◌≡◌, ◌+◌, ◌≤◌, IfErr, IfOk, IfSome, MatchOption, [], length, take};
 ghost use Rattle.esp.specs.Precomputed.{IsPrecomputed};
 ghost use Rattle.gateway.specs.Inputs.{Esp, input_view};
-ghost use Rattle.gateway.specs.Laying.{octets_in};
-ghost use Rattle.gateway.specs.Outputs.{output_view};
 ghost use Rattle.gateway.specs.Runs.{Runs};
-ghost use Rattle.ike.specs.Outputs.{no_trace};
-ghost use Rattle.sukperin.specs.Lists.{AreInputsAt, EachIs, IsPacketAt, IsPlaceRefusal, LaysGroup};
-ghost use Rattle.sukperin.specs.Lists.{LaysNext, LiesIn, OpensAll, OpensBy, RunsOver};
-ghost use Rattle.sukperin.specs.Lists.{SealsAll, SealsBy, TakesEsp, TakesEspAt, TakesOutGroup};
-ghost use Rattle.sukperin.specs.Lists.{TakesOutOver, packet_at, packets_of, told_from};
-ghost use Rattle.sukperin.specs.Outputs.{refused_alone};
+ghost use Rattle.sukperin.specs.Lists.{AreInputsAt, IsPacketAt, IsPlaceRefusal, LaysGroup, LaysNext};
+ghost use Rattle.sukperin.specs.Lists.{LiesIn, OpensAll, OpensBy, RunsOver, SealsAll, SealsBy, TakesEsp};
+ghost use Rattle.sukperin.specs.Lists.{TakesEspAt, TakesOutGroup, TakesOutOver, no_span, packet_at};
+ghost use Rattle.sukperin.specs.Lists.{span_of_laid, told_of_laid};
 ghost use Rattle.sukperin.specs.Outward.{HasRoom};
-ghost use Rattle.sukperin.specs.declared.refusal.Refusal as Refusal;
 
 use crate::end::End;
 use crate::handle::SukHandle;
@@ -23,10 +16,12 @@ use crate::inputs::PACKET_MORE;
 use crate::output::SukOutput;
 use crate::refusal::Refusal;
 use crate::room::write_front;
+use base::Items;
 use caller_peer::PeerCaller;
 use esp::{GROUP, Precomputed};
-use gateway::{Gateway, Input, Output, Trace};
+use gateway::{Gateway, Input, Laid, Reason, Span};
 use std::alloc::Global;
+use std::mem;
 
 /// A packet's place in a buffer.
 #[repr(C)]
@@ -80,8 +75,9 @@ pub extern "C" fn suk_esp_all(
 /// Nothing is left to be taken then.
 ///
 /// In the record of one packet, which is refused alone: 109 where its place doesn't lie in the buffer, 103
-/// where the room that is left is shorter than the packet and 29 octets, 20 where there is no memory for its
-/// group. 103, with nothing done, where there are fewer records than places; 101 before that.
+/// where the room that is left is shorter than the packet and 29 octets, 20 where there is no memory for it.
+/// The handle keeps what it lays packets in, so memory is taken only where a group of up to 64 packets is
+/// longer than each before it. 103, with nothing done, where there are fewer records than places; 101 before that.
 #[unsafe(no_mangle)]
 pub extern "C" fn suk_outward_all(
     alloc: Global,
@@ -271,19 +267,23 @@ fn seal_by(
     if few {
         return Refusal::ShortRoom.code();
     }
-    seal_groups(alloc, &mut hosted.gateway, octets, places, room, outs);
+    // It is the handle's own from list to list, so that none of them takes memory that another one took.
+    let mut buffer = mem::replace(&mut hosted.buffer, Items::new(alloc)).into_vec();
+    seal_groups(&mut hosted.gateway, octets, places, room, outs, &mut buffer);
+    buffer.clear();
+    hosted.buffer = Items::from_vec(buffer);
     hosted.left = Left::Nothing;
     0
 }
 
 // Sends packets in order, in groups of up to 64, into the room from its beginning on.
 fn seal_groups(
-    alloc: Global,
     gateway: &mut Gateway<PeerCaller>,
     octets: &[u8],
     places: &[SukPlace],
     room: &mut [u8],
     outs: &mut [SukOutput],
+    buffer: &mut Vec<u8>,
 )
     requires { length places.now ≤ length outs.old }
     ensures { TakesOutOver octets.now places.now gateway.old outs.old room.old gateway.new outs.new room.new }
@@ -293,26 +293,26 @@ fn seal_groups(
         let start = GROUP * group;
         let count = (places.len() - start).min(GROUP);
         used = seal_group(
-            alloc,
             gateway,
             octets,
             &places[start..start + count],
             room,
             used,
             &mut outs[start..start + count],
+            buffer,
         );
     }
 }
 
 // Sends up to 64 packets in order, into the room behind what is used of it; answers how much is used then.
 fn seal_group(
-    alloc: Global,
     gateway: &mut Gateway<PeerCaller>,
     octets: &[u8],
     places: &[SukPlace],
     room: &mut [u8],
     used: usize,
     outs: &mut [SukOutput],
+    buffer: &mut Vec<u8>,
 ) -> usize
     requires few { length places.now ≤ GROUP }
     requires records { length outs.old ≡ length places.now }
@@ -320,83 +320,79 @@ fn seal_group(
     ensures { TakesOutGroup octets.now places.now used gateway.old room.old result gateway.new outs.new
         room.new }
 {
-    let mut laid = Vec::new(alloc);
-    if laid.reserve(places.len()).is_err() {
-        refuse_each(outs);
-        return used;
-    }
-    let end = lay_group(alloc, gateway, octets, places, room, used, outs, &mut laid);
-    gateway.finish(&mut laid);
-    write_all(&laid, room, used);
-    end
+    buffer.clear();
+    let mut spans = [nothing(); GROUP];
+    lay_group(
+        gateway, octets, places, room, used, outs, &mut spans, buffer,
+    );
+    gateway.finish_behind(&spans[..places.len()], buffer);
+    write_front(&mut room[used..], buffer.as_slice());
+    used + buffer.len()
 }
 
-// Tells of each packet that there was no memory for its group.
-fn refuse_each(outs: &mut [SukOutput])
-    ensures { EachIs (refused_alone Refusal.Memory) outs.new }
-{
-    for out in outs.iter_mut() {
-        *out = SukOutput::refused(Refusal::Memory);
-    }
-}
-
-// Takes the packets in order, but for the ICVs of their ESP packets, which are to stand behind what is
-// used of the room; answers how much of it is used then.
-fn lay_group<'a>(
-    alloc: Global,
+// Takes the packets in order, but for the ICVs of their ESP packets. These stand in the buffer one behind the
+// other, and are to stand so behind what is used of the room.
+fn lay_group(
     gateway: &mut Gateway<PeerCaller>,
-    octets: &'a [u8],
+    octets: &[u8],
     places: &[SukPlace],
     room: &[u8],
     used: usize,
     outs: &mut [SukOutput],
-    laid: &mut Vec<Output<'a>>,
-) -> usize
+    spans: &mut [Span],
+    buffer: &mut Vec<u8>,
+)
+    requires few { length places.now ≤ length spans.old }
     requires records { length outs.old ≡ length places.now }
     requires within { used ≤ length room.now }
-    requires empty { laid.old.items ≡ [] }
-    requires none { vec_len laid.old ≡ 0 }
-    requires capacity { length places.now ≤ vec_capacity laid.old }
-    ensures laid { LaysGroup octets.now places.now room.now used gateway.old result gateway.new outs.new
-        laid.new.items }
-    ensures few { vec_len laid.new ≤ length places.now }
+    requires empty { buffer.old.items ≡ [] }
+    ensures { LaysGroup octets.now places.now room.now used gateway.old gateway.new outs.new
+        (take (length places.now) spans.new) buffer.new.items }
 {
-    let mut end = used;
     for (turn, place) in places.iter().enumerate() {
-        let next = lay_next(alloc, gateway, octets, place, room.len(), end, laid);
+        let next = lay_next(gateway, octets, place, room.len(), used, buffer);
         outs[turn] = next.0;
-        end = next.1;
+        spans[turn] = next.1;
     }
-    end
 }
 
-// Takes the packet at a place, if there is room for it from here on, but for the ICV of its ESP packet. Tells
-// what came of it, and answers where the next one may begin.
-fn lay_next<'a>(
-    alloc: Global,
+// Takes the packet at a place, if there is room for it behind those in the buffer, but for the ICV of its ESP
+// packet. Tells what came of it, and which part of the buffer is its ESP packet.
+fn lay_next(
     gateway: &mut Gateway<PeerCaller>,
-    octets: &'a [u8],
+    octets: &[u8],
     place: &SukPlace,
     room: usize,
-    begin: usize,
-    laid: &mut Vec<Output<'a>>,
-) -> (SukOutput, usize)
-    requires within { begin ≤ room }
-    requires capacity { vec_len laid.old < vec_capacity laid.old }
-    ensures next { LaysNext octets.now room place.now begin gateway.old laid.old.items result.0 result.1
-        gateway.new laid.new.items }
-    ensures size { vec_len laid.new ≤ vec_len laid.old + 1 }
-    ensures capacity { vec_capacity laid.new ≡ vec_capacity laid.old }
+    used: usize,
+    buffer: &mut Vec<u8>,
+) -> (SukOutput, Span)
+    requires within { used + length buffer.old.items ≤ room }
+    ensures { LaysNext octets.now room place.now used gateway.old buffer.old.items result.0 result.1
+        gateway.new buffer.new.items }
 {
-    match packet_for(place, octets, room - begin) {
-        Ok(packet) => {
-            let output = gateway.lay(alloc, packet);
-            let told = told_at(&output, begin);
-            let end = begin + size_of(&output);
-            laid.push_reserved(output);
-            (told, end)
+    let start = buffer.len();
+    let begin = used + start;
+    let packet = match packet_for(place, octets, room - begin) {
+        Ok(packet) => packet,
+        Err(refusal) => return (SukOutput::refused(refusal), nothing()),
+    };
+    match gateway.lay_behind(packet, buffer) {
+        Ok(laid) => {
+            let length = buffer.len() - start;
+            (told_at(&laid, begin, length), span_of(&laid, length))
         }
-        Err(refusal) => (SukOutput::refused(refusal), begin),
+        Err(_) => (SukOutput::refused(Refusal::Memory), nothing()),
+    }
+}
+
+// No part of a buffer.
+fn nothing() -> Span
+    ensures { result ≡ no_span }
+{
+    Span {
+        child: 0,
+        number: 0,
+        length: 0,
     }
 }
 
@@ -415,54 +411,38 @@ fn packet_for<'a>(place: &SukPlace, octets: &'a [u8], room: usize) -> Result<&'a
     Ok(packet)
 }
 
-// What is told of an output whose ESP packet, if there is one, begins here in the room.
-fn told_at(output: &Output<'_>, begin: usize) -> SukOutput
-    ensures { result ≡ told_from begin (output_view output.now) no_trace }
+// What is told of a packet that was laid; its ESP packet, if there is one, begins here in the room and has so
+// many octets.
+fn told_at(laid: &Laid<'_>, begin: usize, length: usize) -> SukOutput
+    ensures { result ≡ told_of_laid begin length laid.now }
 {
-    let told = SukOutput::of(output, &Trace::NONE);
-    match output {
-        Output::Sealed { .. } => SukOutput {
+    match laid {
+        Laid::Sealed { child, number } => SukOutput {
+            child: *child,
+            number: *number,
             offset: begin as u64,
-            ..told
+            length: length as u64,
+            ..SukOutput::of_kind(9)
         },
-        _ => told,
+        Laid::Clear(packet) => SukOutput {
+            length: packet.len() as u64,
+            ..SukOutput::of_kind(10)
+        },
+        Laid::Discarded => SukOutput::of_kind(11),
+        Laid::Dropped(fault) => SukOutput::with_code(12, Reason::Packet(*fault)),
     }
 }
 
-// The octets of an output's ESP packet, 0 where it has none.
-fn size_of(output: &Output<'_>) -> usize
-    ensures { result ≡ length (octets_in output.now) }
+// The part of the buffer that a packet's ESP packet is, of so many octets; no part where it has none.
+fn span_of(laid: &Laid<'_>, length: usize) -> Span
+    ensures { result ≡ span_of_laid length laid.now }
 {
-    match output {
-        Output::Sealed { octets, .. } => octets.len(),
-        _ => 0,
-    }
-}
-
-// Writes the ESP packets of outputs one behind the other, from this place of the room on.
-fn write_all(laid: &[Output<'_>], room: &mut [u8], begin: usize)
-    requires { begin + length (packets_of laid.now) ≤ length room.old }
-    ensures { room.new ≡ take begin room.old ++ (packets_of laid.now ++ drop (begin + length (packets_of
-        laid.now)) room.old) }
-{
-    let mut at = begin;
-    for output in laid.iter() {
-        at = write_next(output, room, at);
-    }
-}
-
-// Writes the ESP packet of an output, if it has one, at a place of the room; answers the place behind it.
-fn write_next(output: &Output<'_>, room: &mut [u8], at: usize) -> usize
-    requires { at + length (octets_in output.now) ≤ length room.old }
-    ensures behind { result ≡ at + length (octets_in output.now) }
-    ensures written { room.new ≡ take at room.old ++ (octets_in output.now ++ drop (at + length (octets_in
-        output.now)) room.old) }
-{
-    match output {
-        Output::Sealed { octets, .. } => {
-            write_front(&mut room[at..], octets.as_slice());
-            at + octets.len()
-        }
-        _ => at,
+    match laid {
+        Laid::Sealed { child, number } => Span {
+            child: *child,
+            number: *number,
+            length,
+        },
+        Laid::Clear(_) | Laid::Discarded | Laid::Dropped(_) => nothing(),
     }
 }

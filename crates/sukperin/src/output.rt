@@ -39,7 +39,7 @@ pub struct SukOutput {
 
 impl SukOutput {
     // One of a kind, which tells nothing else.
-    fn of_kind(kind: u32) -> SukOutput
+    pub fn of_kind(kind: u32) -> SukOutput
         ensures { result ≡ of_kind kind }
     {
         SukOutput {
@@ -143,7 +143,8 @@ impl SukOutput {
         }
     }
 
-    fn with_code(kind: u32, reason: Reason) -> SukOutput
+    // What is dropped or refused, and why.
+    pub fn with_code(kind: u32, reason: Reason) -> SukOutput
         ensures { result ≡ with_code kind reason }
     {
         SukOutput {

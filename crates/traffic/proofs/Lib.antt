@@ -3,6 +3,7 @@ mod OpeningLemmas
 mod ReceivingLemmas
 mod ReceptionLemmas
 mod SendingLemmas
+mod BehindLemmas
 mod FollowingLemmas
 mod MirrorLemmas
 mod ContentLemmas

@@ -5,5 +5,6 @@ pub mod Laying
 pub mod Verdicts
 pub mod Receiving
 pub mod Sending
+pub mod Behind
 pub mod Admitting
 pub mod Due

@@ -7,6 +7,8 @@ use Rattle.traffic.specs.declared.arrival.Arrival.{Arrival}
 use Rattle.traffic.specs.declared.arrival.Arrival.TheVariants as arrival
 use Rattle.traffic.specs.declared.departure.Departure.{Departure}
 use Rattle.traffic.specs.declared.departure.Departure.TheVariants as departure
+use Rattle.traffic.specs.declared.departure.Laid.{Laid}
+use Rattle.traffic.specs.declared.departure.Laid.TheVariants as laid
 use Rattle.traffic.specs.declared.fault.PacketFault.{PacketFault}
 
 -- a Child SA is told by the serial of its SA pair
@@ -32,6 +34,13 @@ outcome_of_departure (departure.Sealed child number octets) = Sealed child numbe
 outcome_of_departure (departure.Clear packet) = Clear packet.now
 outcome_of_departure departure.Discarded = Discarded
 outcome_of_departure (departure.Dropped fault) = Dropped fault
+
+-- these octets were appended to a buffer
+abbrev pub outcome_of_laid : Laid → Octets → Outcome
+outcome_of_laid (laid.Sealed child number) octets = Sealed child number octets
+outcome_of_laid (laid.Clear packet) octets = Clear packet.now
+outcome_of_laid laid.Discarded octets = Discarded
+outcome_of_laid (laid.Dropped fault) octets = Dropped fault
 
 abbrev pub outcome_of_admission : Admission → Outcome
 outcome_of_admission (admission.Clear packet) = Clear packet.now

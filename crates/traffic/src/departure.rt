@@ -1,13 +1,15 @@
 //! Packets on their way out (RFC 4301, section 5.1).
-ghost use Rattle.std.specs.Prelude.{◌≡◌, IfErr, IfOk};
+ghost use Rattle.std.specs.Prelude.{◌≡◌, ◌+◌, ◌≤◌, IfErr, IfOk, IsOk, length, vec_len};
+ghost use Rattle.std.specs.Vec.{vec_capacity};
 ghost use Rattle.flows.specs.Memory.{AllRight};
 ghost use Rattle.flows.specs.Treatments.{action_of, IsCarriedSo};
 ghost use Rattle.policy.specs.declared.entry.Action.TheVariants.{Protect};
 ghost use Rattle.policy.specs.Packets.{IsFlowOf};
 ghost use Rattle.sadb.specs.Database.{IsOutbound};
+ghost use Rattle.traffic.specs.Behind.{DepartsBehind, ProtectsBehind, SendsBehind};
 ghost use Rattle.traffic.specs.Laying.{finished_outcome};
-ghost use Rattle.traffic.specs.Outcomes.{outcome_of_departure};
-ghost use Rattle.traffic.specs.Sending.{Departs, HasCarrier, IsToBeSealed, Protects, Sends};
+ghost use Rattle.traffic.specs.Outcomes.{outcome_of_departure, outcome_of_laid};
+ghost use Rattle.traffic.specs.Sending.{HasCarrier, IsToBeSealed, Sends};
 
 use crate::PacketFault;
 use crate::next_header::next_header_of;
@@ -29,6 +31,24 @@ pub enum Departure<'a> {
         number: u64,
         /// The ESP packet.
         octets: Items<u8>,
+    },
+    /// It goes as it is.
+    Clear(&'a [u8]),
+    /// It doesn't go, by the policy.
+    Discarded,
+    /// It is dropped.
+    Dropped(PacketFault),
+}
+
+/// What became of a packet on its way out whose ESP packet, if it goes protected, was appended to a buffer.
+#[derive(Clone, Copy, Debug, PartialEq, Eq)]
+pub enum Laid<'a> {
+    /// It goes protected: its ESP packet is what was appended.
+    Sealed {
+        /// The serial of the SA pair that carries it.
+        child: u32,
+        /// Its sequence number there.
+        number: u64,
     },
     /// It goes as it is.
     Clear(&'a [u8]),
@@ -69,8 +89,9 @@ pub fn send<'a>(
         Err(fault) => return Ok(Departure::Dropped(PacketFault::Inner(fault))),
     };
     let treatment = look_up(table, policy, &flow);
-    let laid = depart(alloc, table, treatment, &flow, packet)?;
-    Ok(finish(table, laid))
+    let mut octets = Vec::new(alloc);
+    let laid = depart(table, treatment, &flow, packet, &mut octets)?;
+    Ok(finish(table, departure_of(laid, octets)))
 }
 
 /// Sends a packet as [`send`] does, and asks a memory what is done with its flow: at a flow that is
@@ -113,14 +134,53 @@ pub fn lay<'a>(
         (λ _. IsToBeSealed table.old policy.now packet.now × (table.new ≡ table.old)) }
     ensures right { AllRight policy.now table.new.pairs flows.new }
 {
+    let mut octets = Vec::new(alloc);
+    let laid = lay_behind(table, flows, policy, packet, &mut octets)?;
+    Ok(departure_of(laid, octets))
+}
+
+/// Sends a packet as [`lay`] does, but appends its ESP packet to what stands in a buffer. So the packets of a
+/// list stand one behind the other, and take memory only where the buffer has to grow. Where the packet
+/// doesn't go protected, nothing is appended.
+pub fn lay_behind<'a>(
+    table: &mut Table,
+    flows: &mut FlowMemory,
+    policy: &Policy,
+    packet: &'a [u8],
+    out: &mut Vec<u8>,
+) -> Result<Laid<'a>, AllocError>
+    requires { AllRight policy.now table.old.pairs flows.old }
+    ensures sent { IfOk result
+        (λ laid. SendsBehind table.old policy.now packet.now out.old.items laid table.new out.new.items) }
+    ensures memory { IfErr result (λ _. IsToBeSealed table.old policy.now packet.now
+        × (table.new ≡ table.old) × (out.new.items ≡ out.old.items)) }
+    ensures room { vec_len out.old + (length packet.now + 29) ≤ vec_capacity out.old → IsOk result }
+    ensures right { AllRight policy.now table.new.pairs flows.new }
+{
     answers_stay_right();
     no_pair_comes();
     let flow = match inner(packet) {
         Ok(flow) => flow,
-        Err(fault) => return Ok(Departure::Dropped(PacketFault::Inner(fault))),
+        Err(fault) => return Ok(Laid::Dropped(PacketFault::Inner(fault))),
     };
     let treatment = flows.treatment(table, policy, &flow);
-    depart(alloc, table, treatment, &flow, packet)
+    depart(table, treatment, &flow, packet, out)
+}
+
+// What was laid in a buffer of its own.
+fn departure_of<'a>(laid: Laid<'a>, octets: Vec<u8>) -> Departure<'a>
+    ensures { outcome_of_departure result ≡ outcome_of_laid laid.entry octets.items }
+{
+    match laid {
+        Laid::Sealed { child, number } => Departure::Sealed {
+            child,
+            number,
+            octets: Items::from_vec(octets),
+        },
+        Laid::Clear(packet) => Departure::Clear(packet),
+        Laid::Discarded => Departure::Discarded,
+        Laid::Dropped(fault) => Departure::Dropped(fault),
+    }
 }
 
 // Writes the ICV into an ESP packet that was laid.
@@ -150,48 +210,46 @@ fn finish<'a>(table: &Table, laid: Departure<'a>) -> Departure<'a>
 
 // Lays a packet as its flow is to be treated.
 fn depart<'a>(
-    alloc: Global,
     table: &mut Table,
     treatment: Treatment,
     flow: &Flow,
     packet: &'a [u8],
-) -> Result<Departure<'a>, AllocError>
+    out: &mut Vec<u8>,
+) -> Result<Laid<'a>, AllocError>
     requires flow { IsFlowOf packet.now flow.now }
     requires carried { IsCarriedSo table.old.pairs flow.now treatment }
-    ensures sent { IfOk result (λ departure. Departs table.old treatment flow.now packet.now
-        (finished_outcome table.new.pairs (outcome_of_departure departure)) table.new) }
-    ensures memory { IfErr result (λ _.
-        (action_of treatment ≡ Protect) × HasCarrier table.old flow.now × (table.new ≡ table.old)) }
+    ensures sent { IfOk result (λ laid. DepartsBehind table.old treatment flow.now packet.now
+        out.old.items laid table.new out.new.items) }
+    ensures memory { IfErr result (λ _. (action_of treatment ≡ Protect) × HasCarrier table.old flow.now
+        × (table.new ≡ table.old) × (out.new.items ≡ out.old.items)) }
+    ensures room { vec_len out.old + (length packet.now + 29) ≤ vec_capacity out.old → IsOk result }
 {
     match treatment {
-        Treatment::Carried(child) => lay_by(alloc, table, child, flow, packet),
-        Treatment::Uncarried => Ok(Departure::Dropped(PacketFault::UnknownAssociation)),
-        Treatment::Bypassed => Ok(Departure::Clear(packet)),
-        Treatment::Discarded => Ok(Departure::Discarded),
+        Treatment::Carried(child) => lay_by(table, child, flow, packet, out),
+        Treatment::Uncarried => Ok(Laid::Dropped(PacketFault::UnknownAssociation)),
+        Treatment::Bypassed => Ok(Laid::Clear(packet)),
+        Treatment::Discarded => Ok(Laid::Discarded),
     }
 }
 
 // Lays a packet by the SA pair that carries its flow.
 fn lay_by<'a>(
-    alloc: Global,
     table: &mut Table,
     child: u32,
     flow: &Flow,
     packet: &'a [u8],
-) -> Result<Departure<'a>, AllocError>
+    out: &mut Vec<u8>,
+) -> Result<Laid<'a>, AllocError>
     requires flow { IsFlowOf packet.now flow.now }
     requires carrier { IsOutbound table.old.pairs flow.now child }
-    ensures sent { IfOk result (λ departure. Protects table.old flow.now packet.now
-        (finished_outcome table.new.pairs (outcome_of_departure departure)) table.new) }
-    ensures memory { IfErr result (λ _. table.new ≡ table.old) }
+    ensures sent { IfOk result (λ laid. ProtectsBehind table.old flow.now packet.now
+        out.old.items laid table.new out.new.items) }
+    ensures memory { IfErr result (λ _. (table.new ≡ table.old) × (out.new.items ≡ out.old.items)) }
+    ensures room { vec_len out.old + (length packet.now + 29) ≤ vec_capacity out.old → IsOk result }
 {
-    let mut octets = Vec::with_capacity(alloc, packet.len() + OVERHEAD_LIMIT)?;
-    match table.lay(child, next_header_of(flow.family()), packet, &mut octets) {
-        Ok(number) => Ok(Departure::Sealed {
-            child,
-            number,
-            octets: Items::from_vec(octets),
-        }),
-        Err(fault) => Ok(Departure::Dropped(PacketFault::Esp(fault))),
+    out.reserve(packet.len() + OVERHEAD_LIMIT)?;
+    match table.lay(child, next_header_of(flow.family()), packet, out) {
+        Ok(number) => Ok(Laid::Sealed { child, number }),
+        Err(fault) => Ok(Laid::Dropped(PacketFault::Esp(fault))),
     }
 }

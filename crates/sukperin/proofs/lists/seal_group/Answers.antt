@@ -1,29 +1,23 @@
-use Rattle.std.proofs.Common.{rules, ◌≡◌, ◌∙◌, length, arith, ap, sym}
-use Rattle.gateway.specs.Laying.{finished_outputs}
-use Rattle.sukperin.specs.Lists.{packets_of}
-use Rattle.sukperin.proofs.SealLemmas.{group_refused, group_written, whole_lent}
+use Rattle.std.proofs.Common.{◌≡◌, ◌+◌, ◌-◌, ◌≤◌, ◌∙◌, length, take, drop, arith, ap, sym, refl}
+use borrow.Rule.Slice.PartMut.{put_mid}
+use Rattle.gateway.specs.Rows.{finished_row}
+use Rattle.sukperin.proofs.SealLemmas.{group_written, row_lent, written_at}
 use Rattle.sukperin.proofs.lists.seal_group.Goals as goal
-
-pub returns-then-is_err : goal.returns-then-is_err
-returns-then-is_err c = group_refused c.args.octets.now c.args.places.now c.args.used c.args.gateway.now c.args.room.now c.refuse_each.new.outs c.requires.within (search rules) c.refuse_each.ensures
-
-pub write_all-requires : goal.write_all-requires
-write_all-requires c =
-    let lays = c.lay_group-end.ensures.laid in
-    let pairs = c.lay_group-end.new.gateway.table.pairs in
-    let items = c.lay_group-end.new.laid.items in
-    let len : c.lay_group-end.new.laid.len ≡ length items = sym c.deref_mut.ensures.len ∙ ap length c.deref_mut.ensures.value in
-    let is : c.deref.result.now ≡ finished_outputs pairs items = c.deref.ensures.value ∙ whole_lent pairs c.lay_group-end.new.laid.len items c.deref_mut.result.now c.finish.new.laid c.deref_mut.ensures.value len c.finish.ensures in
-    let same = ap (λ os. length (packets_of os)) is in
-    let end_is = lays.end_is in
-    let fits = lays.fits in
-    omega arith
 
 pub returns : goal.returns
 returns c =
-    let pairs = c.lay_group-end.new.gateway.table.pairs in
-    let items = c.lay_group-end.new.laid.items in
-    let len : c.lay_group-end.new.laid.len ≡ length items = sym c.deref_mut.ensures.len ∙ ap length c.deref_mut.ensures.value in
-    let is : c.deref.result.now ≡ finished_outputs pairs items = c.deref.ensures.value ∙ whole_lent pairs c.lay_group-end.new.laid.len items c.deref_mut.result.now c.finish.new.laid c.deref_mut.ensures.value len c.finish.ensures in
-    group_written c.args.octets.now c.args.places.now c.args.room.now c.write_all.new.room c.args.used c.lay_group-end.result c.args.gateway.now c.lay_group-end.new.gateway c.lay_group-end.new.outs items c.deref.result.now
-    c.requires.within c.lay_group-end.ensures.laid is c.write_all.ensures
+    let pairs = c.lay_group.new.gateway.table.pairs in
+    let room = c.args.room.now in
+    let used = c.args.used in
+    let spans = take (length c.args.places.now) c.lay_group.new.spans in
+    let items = c.lay_group.new.buffer.items in
+    let len : c.lay_group.new.buffer.len ≡ length items = sym c.deref_mut.ensures.len ∙ ap length c.deref_mut.ensures.value in
+    let done = c.as_slice.result.now in
+    let is : done ≡ finished_row pairs spans items = c.as_slice.ensures.value ∙ row_lent pairs spans c.lay_group.new.buffer.len items c.deref_mut.result.now c.finish_behind.new.packets c.deref_mut.ensures.value len c.finish_behind.ensures in
+    let size = c.as_slice.ensures.len in
+    let enough = c.lay_group.ensures.fits in
+    let fits : used + length done ≤ length room = omega arith in
+    let filled = put_mid used (length room - used) room c.write_front.new.room in
+    group_written c.args.octets.now c.args.places.now room filled used (used + c.len.result) c.args.gateway.now c.lay_group.new.gateway c.lay_group.new.outs spans items done
+    c.requires.within c.lay_group.ensures is (ap (λ k. used + k) (c.len.ensures ∙ sym size))
+    (written_at room done (take (length room - used) (drop used room)) filled used fits refl (ap (put_mid used (length room - used) room) c.write_front.ensures))

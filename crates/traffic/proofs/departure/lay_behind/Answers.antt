@@ -1,0 +1,33 @@
+use Rattle.std.specs.Prelude.{◌≡◌, refl}
+use Rattle.flows.specs.Staying.{NoneComes}
+use Rattle.flows.specs.Treatments.{action_of}
+use Rattle.policy.specs.declared.entry.Action.TheVariants.{Protect}
+use Rattle.sadb.specs.Database.{Database}
+use Rattle.traffic.specs.Outcomes.{Outcome}
+use Rattle.traffic.specs.Sending.{HasCarrier, Sends}
+use Rattle.traffic.specs.declared.fault.PacketFault.TheVariants.{Inner}
+use Rattle.traffic.proofs.FollowingLemmas.{Keeps}
+use Rattle.traffic.proofs.BehindLemmas.{departs_behind, lays_nothing, sent_behind}
+use Rattle.traffic.proofs.departure.lay_behind.Goals as goal
+
+pub returns-clause-sent : goal.returns-clause-sent
+returns-clause-sent c =
+    departs_behind c.args.table.now c.args.policy.now c.treatment-treatment.result c.in-Ok.flow c.args.packet.now c.args.out.now.items c.depart.result c.depart.new.table c.depart.new.out.items c.in-Ok.ensures.flow
+    c.treatment-treatment.ensures.right.decision c.depart.ensures.sent
+
+pub returns-clause-right : goal.returns-clause-right
+returns-clause-right c =
+    let keeps : Keeps (λ (a b : Database). NoneComes a.pairs b.pairs) = record {
+      same = λ d. c.no_pair_comes.ensures.same d.pairs;
+      opening = c.no_pair_comes.ensures.opening;
+      refusing = c.no_pair_comes.ensures.refusing;
+      sealing = c.no_pair_comes.ensures.sealing;
+    } in
+    c.answers_stay_right.ensures.stay c.args.policy.now c.args.table.now.pairs c.depart.new.table.pairs c.treatment-treatment.new.self
+    (sent_behind (λ (a b : Database). NoneComes a.pairs b.pairs) keeps (action_of c.treatment-treatment.result ≡ Protect) (HasCarrier c.args.table.now c.in-Ok.flow) (c.depart.new.out.items ≡ c.args.out.now.items)
+    c.args.table.now c.args.policy.now c.args.packet.now c.args.out.now.items c.depart.result c.depart.new.table c.depart.new.out.items (returns-clause-sent c) c.depart.ensures.memory)
+    c.treatment-treatment.ensures.all_right
+
+pub returns-in-Err-clause-sent : goal.returns-in-Err-clause-sent
+returns-in-Err-clause-sent c =
+    lays_nothing (λ (o : Outcome). Sends c.args.table.now c.args.policy.now c.args.packet.now o c.args.table.now) c.args.out.now.items (Inner c.in-Err.fault) c.args.table.now (c.in-Err.ensures.refused, refl)
