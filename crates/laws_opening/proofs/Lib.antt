@@ -4,3 +4,5 @@ mod AnsweringLemmas
 mod ReadingLemmas
 mod OpeningLemmas
 mod WorkedLemmas
+mod CookieLemmas
+mod BringingLemmas

@@ -2,7 +2,7 @@
 -- who it is.
 use Rattle.std.proofs.Common.{◌≡◌, ◌≢◌, ◌∷◌, ◌&&◌, ◌||◌, inl, inr, ℕ, zero, suc, Bool, List, arith, true, false, None, Option, Some, [], Result, Ok, ap, refl, subst, sym, ◌∙◌}
 use Rattle.std.specs.Prelude.{◌==◌}
-use Rattle.std.proofs.lemmas.Bool.{cases_order, eq-eqb, eqb-true, ne_eqb, true≢false}
+use Rattle.std.proofs.lemmas.Bool.{cases_order, eq-eqb, eqb-true, true≢false}
 use Rattle.std.proofs.lemmas.Grind.{common_steps}
 use Rattle.std.proofs.lemmas.List.Quantifiers.{position-Some}
 use Rattle.std.proofs.lemmas.Option.{same_Some, slice_get-get_or}
@@ -10,13 +10,14 @@ use Rattle.std.specs.FinMap as map
 use Rattle.std.specs.List.{position, slice_get, slice_index_or, slice_set}
 use Rattle.base.specs.Octets.{Octets}
 use Rattle.wire.specs.Messages.{Spells, SpellsPlainly}
+use Rattle.wire.specs.Numbers.{IKE_SA_INIT}
 use Rattle.wire.specs.declared.message.Header.{Header}
 use Rattle.wire.specs.declared.message.Message.{Message}
 use Rattle.suite.specs.Callers.{IsSecret}
 use Rattle.suite.specs.declared.fresh.Fresh.{Fresh}
 use Rattle.suite.specs.declared.key_record.KeyRecord.{KeyRecord}
 use Rattle.suite.specs.declared.sealer.Cipher.{Cipher}
-use Rattle.exchange.specs.Headers.{keys_of}
+use Rattle.exchange.specs.Headers.{keys_of, sent_header}
 use Rattle.exchange.specs.Sealed.{IsSealed}
 use Rattle.exchange.specs.declared.headers.Role.{Role}
 use Rattle.exchange.specs.declared.headers.Role.TheVariants.{Initiator, Responder}
@@ -121,34 +122,38 @@ owner Responder spi_i spi_r x y waits is = absurd cc
 -- ---- an IKE SA that waits, with all that is known of it
 
 -- what it remembers of its request
-abbrev sent_as : InitSent → Fresh → AskedChildView → InitSent
+abbrev pub sent_as : InitSent → Fresh → AskedChildView → InitSent
 sent_as sent asking child = record sent { secret = asking.secret; nonce = asking.nonce; child = child }
 
-abbrev waits_as : Association → InitSent → Fresh → AskedChildView → Association
+abbrev pub waits_as : Association → InitSent → Fresh → AskedChildView → Association
 waits_as a sent asking child = record a { role = Initiator; spi_i = asking.spi; phase = phase.InitSent (sent_as sent asking child) }
 
-waits_so : (asking : Fresh) (request : Octets) (child : AskedChildView) (held : Held) (waits : StillWaits asking request child held)
+pub sent_so : (asking : Fresh) (request : Octets) (child : AskedChildView) (held : Held) (waits : StillWaits asking request child held)
+    → waits.sent ≡ sent_as waits.sent asking child
+sent_so asking request child held waits = (λ i. record waits.sent { secret = waits.secret i; nonce = waits.nonce i; child = waits.child_is i })
+
+pub waits_so : (asking : Fresh) (request : Octets) (child : AskedChildView) (held : Held) (waits : StillWaits asking request child held)
     → waits.association ≡ waits_as waits.association waits.sent asking child
 waits_so asking request child held waits =
-    let sent_is : waits.sent ≡ sent_as waits.sent asking child =
-    (λ i. record waits.sent { secret = waits.secret i; nonce = waits.nonce i; child = waits.child_is i }) in
-    let phase_is : waits.association.phase ≡ phase.InitSent (sent_as waits.sent asking child) = waits.phase_is ∙ ap phase.InitSent sent_is in
+    let phase_is : waits.association.phase ≡ phase.InitSent (sent_as waits.sent asking child) =
+    waits.phase_is ∙ ap phase.InitSent (sent_so asking request child held waits) in
     (λ i. record waits.association { role = waits.role i; spi_i = waits.spi i; phase = phase_is i })
 
-module _ (meaning : Meaning) (asking answering : Fresh) (named : answering.spi ≢ 0) (base : Association) (sent : InitSent) (child : AskedChildView) where
+-- by the header of a response to IKE_SA_INIT that names this SPI of the responder
+module _ (asking : Fresh) (spi_r : ℕ) (base : Association) (sent : InitSent) (child : AskedChildView) where
   abbrev head : Header
-  head = (answering_message meaning asking answering).header
+  head = sent_header asking.spi spi_r IKE_SA_INIT Responder true 0
 
   abbrev it : Association
   it = waits_as base sent asking child
 
-  not_initial : is_initial_request head ≡ false
-  not_initial = ap (λ (b : Bool). b && false && true) (ne_eqb answering.spi 0 named)
+  pub not_initial : is_initial_request head ≡ false
+  not_initial = grind (arith, common_steps)
 
   meant : is_meant head it ≡ true
   meant =
-      ap (λ (b : Bool). (b && (base.spi_r == answering.spi)) || (b && true)) (eq-eqb asking.spi asking.spi refl)
-      ∙ right_in (base.spi_r == answering.spi)
+      ap (λ (b : Bool). (b && (base.spi_r == spi_r)) || (b && true)) (eq-eqb asking.spi asking.spi refl)
+      ∙ right_in (base.spi_r == spi_r)
 
   module _ (held : Held) (table : Database) (sound : AreSound held table) (place : ℕ) (there : At held place it) where
     first_meant : (o : Option ℕ) → position (is_meant head) held.associations ≡ o → o ≡ Some place
@@ -157,23 +162,23 @@ module _ (meaning : Meaning) (asking answering : Fresh) (named : answering.spi �
         let by = position-Some (is_meant head) held.associations k it found in
         let c : Association = slice_index_or held.associations k it in
         let stands : At held k c = slice_get-get_or held.associations k it by.0 in
-        let same : own_spi c ≡ own_spi it = owner c.role c.spi_i c.spi_r asking.spi answering.spi (is_waiting c.phase) by.1 in
+        let same : own_spi c ≡ own_spi it = owner c.role c.spi_i c.spi_r asking.spi spi_r (is_waiting c.phase) by.1 in
         ap Some (one_owner held table k place c it sound stands there same)
 
-    place_is : place_meant head held.associations ≡ Ok place
+    pub place_is : place_meant head held.associations ≡ Ok place
     place_is = ap (λ (o : Option ℕ). place_or o (missing head held.associations)) (first_meant (position (is_meant head) held.associations) refl)
 
 -- ---- what that IKE SA does about it
 
 -- what is said of the IKE SA that is found, where it is this one
-record TakenBy (meaning : Meaning) (setup : Setup) (place : ℕ) (a : Association) (held : Held) (table : Database) (octets : Octets) (m : Message) (stepped : Stepped) (new : Held) (new_table : Database) : Type 0 where
-  effect : Effect
-  changed : Association
-  takes : TakesMessage meaning setup a table octets m effect changed new_table
-  said : stepped ≡ stepped_of a.serial m.header.id effect
-  content : new ≡ record held { associations = slice_set held.associations place changed }
+pub record TakenBy (meaning : Meaning) (setup : Setup) (place : ℕ) (a : Association) (held : Held) (table : Database) (octets : Octets) (m : Message) (stepped : Stepped) (new : Held) (new_table : Database) : Type 0 where
+  pub effect : Effect
+  pub changed : Association
+  pub takes : TakesMessage meaning setup a table octets m effect changed new_table
+  pub said : stepped ≡ stepped_of a.serial m.header.id effect
+  pub content : new ≡ record held { associations = slice_set held.associations place changed }
 
-taken_by : (meaning : Meaning) (setup : Setup) (place : ℕ) (a : Association) (held : Held) (table : Database) (octets : Octets) (m : Message) (stepped : Stepped) (new : Held) (new_table : Database)
+pub taken_by : (meaning : Meaning) (setup : Setup) (place : ℕ) (a : Association) (held : Held) (table : Database) (octets : Octets) (m : Message) (stepped : Stepped) (new : Held) (new_table : Database)
     → At held place a → TakesAt place meaning setup octets m held table stepped new new_table → TakenBy meaning setup place a held table octets m stepped new new_table
 taken_by meaning setup place a held table octets m stepped new new_table there takes =
     let same : takes.association ≡ a = sym (same_Some a takes.association (sym there ∙ takes.there)) in
@@ -209,7 +214,7 @@ module _ (asker : Asker) (setup : Setup) (old : Association) (sent : InitSent) (
       continues_with c e new (subst (λ (k : KeyRecord). Continues asker setup old sent m.header.id m octets (meant_as.Keys k) c new) same continues) said
   continues_by means c e new same continues said = absurd same
 
-same_sent : (one other : InitSent) → phase.InitSent one ≡ phase.InitSent other → one ≡ other
+pub same_sent : (one other : InitSent) → phase.InitSent one ≡ phase.InitSent other → one ≡ other
 same_sent one other is = cc
 
 -- ---- the step, of a machine that holds the IKE SA which waits
@@ -238,7 +243,7 @@ module _ (one : OneMessage) (plain : PlainIsSpelled) (faultless : HasNoFault) (a
   gives : GivesKeys meaning.cipher meaning.group meaning.shared_secret (waiting_of asking.spi sent) message keys
   gives =
       reads_keys meaning.cipher meaning.group (waiting_of asking.spi sent) (offered meaning asking) answering (record { «record» = keys; octets = response })
-      message asking_drawn.secret answering_drawn.secret refl refl (chosen acceptable meaning) answering_drawn.named
+      message asking_drawn.secret answering_drawn.secret refl refl (chosen acceptable meaning) answering_drawn.nonzero
       (record { shared = shared; agrees = agrees; keys = refl; spelled = spelled }) read
 
   module _ (setup : Setup) (table : Database) where
@@ -276,10 +281,10 @@ module _ (one : OneMessage) (plain : PlainIsSpelled) (faultless : HasNoFault) (a
           known reads.done in
           let later : TakesFound (place_meant message.header held.associations) meaning setup response message held table stepped new new_table =
           subst (λ (b : Bool). TakesRead b meaning setup cookies address response message held table stepped new new_table)
-          (not_initial meaning asking answering answering_drawn.named base base_sent child) done in
+          (not_initial asking answering.spi base base_sent child) done in
           let at : TakesAt place meaning setup response message held table stepped new new_table =
           subst (λ (p : Result ℕ MessageFault). TakesFound p meaning setup response message held table stepped new new_table)
-          (place_is meaning asking answering answering_drawn.named base base_sent child held table sound place there) later in
+          (place_is asking answering.spi base base_sent child held table sound place there) later in
           taken_by meaning setup place waiting_now held table response message stepped new new_table there at
 
       -- it can't be refused but for memory
@@ -289,7 +294,7 @@ module _ (one : OneMessage) (plain : PlainIsSpelled) (faultless : HasNoFault) (a
       for_memory cookies address f refuses =
           let known : refuses.message ≡ message = one refuses.message message response refuses.spelled read in
           let initial : is_initial_request message.header ≡ true = ap (λ (m : Message). is_initial_request m.header) (sym known) ∙ refuses.initial in
-          absurd (true≢false (sym initial ∙ not_initial meaning asking answering answering_drawn.named base base_sent child))
+          absurd (true≢false (sym initial ∙ not_initial asking answering.spi base base_sent child))
 
   -- it tells who it is, and waits for the response to that
   record Leaves (setup : Setup) (held : Held) (place : ℕ) (stepped : Stepped) (new : Held) : Type 0 where
@@ -343,7 +348,7 @@ module _ (one : OneMessage) (plain : PlainIsSpelled) (faultless : HasNoFault) (a
 -- ---- the step
 
 -- the machine has this IKE SA at this place then, by whatever name
-replaced : (machine new : Machine) (place : ℕ) (x y : Association) → ike.KeepsRest machine new
+pub replaced : (machine new : Machine) (place : ℕ) (x y : Association) → ike.KeepsRest machine new
     → new.held ≡ record machine.held { associations = slice_set machine.held.associations place x } → x ≡ y → new ≡ with_at machine place y
 replaced machine new place x y rest leads same =
     rest ∙ ap (λ (h : Held). record machine { held = h }) leads ∙ ap (λ (z : Association). with_at machine place z) same

@@ -48,7 +48,7 @@ pub leads_to : {C : Type 0} (old new : State C) (machine : Machine) (table : Dat
     → new.machine ≡ machine → new.table ≡ table → new ≡ record old { machine = machine; table = table }
 leads_to {C} old new machine table kept machine_is table_is = kept ∙ (λ i. record old { machine = machine_is i; table = table_is i })
 
--- an SPI that is one can be that of a first IKE SA
+-- an SPI that isn't 0 can be that of a first IKE SA
 pub usable : (spi : ℕ) → spi ≢ 0 → is_bad_spi spi [] ≡ false
 usable spi named = ap (λ (b : Bool). b || false) (ne_eqb spi 0 named)
 

@@ -65,8 +65,8 @@ module _ {C : Type 0} (a b : C) (run : IsRunFromNewGateways a b) where
   can : CanOpen run_meaning (worked_side A) 0 first_entry (fresh_of 1) (fresh_of 2) (replicate 32 0)
   can = record {
     protects = refl;
-    asking_drawn = record { named = (run.fresh 1 (omega arith) (omega arith)).named; secret = (run.fresh 1 (omega arith) (omega arith)).secret };
-    answering_drawn = record { named = (run.fresh 2 (omega arith) (omega arith)).named; secret = (run.fresh 2 (omega arith) (omega arith)).secret };
+    asking_drawn = record { nonzero = (run.fresh 1 (omega arith) (omega arith)).named; secret = (run.fresh 1 (omega arith) (omega arith)).secret };
+    answering_drawn = record { nonzero = (run.fresh 2 (omega arith) (omega arith)).named; secret = (run.fresh 2 (omega arith) (omega arith)).secret };
     agrees = refl;
   }
 

@@ -37,8 +37,9 @@ use Rattle.laws_opening.specs.Opened.{after, telling_message, waiting_as}
 
 -- ---- the initiator asks
 
--- A gateway can begin an IKE SA by the entry at this place: the entry protects; there is room for one more
--- IKE SA, and a serial is left; the fresh SPI can be its own; and the table has a place and an SPI left.
+-- A gateway can begin an IKE SA by the entry at this place: the entry protects; there is room for one
+-- more IKE SA, and a serial is left; the fresh SPI can be its own; and the table has a place and an SPI
+-- left.
 pub record CanBegin {C : Type 0} (place : ℕ) (entry : Entry) (asking : Fresh) (s : State C) : Type 0 where
   pub protects : protecting_entry s.entries place ≡ Some entry
   pub few : length s.machine.held.associations < ASSOCIATION_LIMIT

@@ -29,8 +29,8 @@ answering_message meaning asking answering =
 abbrev pub keys_from : Octets → Fresh → Fresh → KeyRecord
 keys_from shared asking answering = ike_keys shared asking.nonce answering.nonce asking.spi answering.spi
 
--- What is asked of what is fresh, as the code's types have it: an SPI that is one (section 3.1), and a secret
--- of 32 octets.
+-- What is asked of what is fresh, as the code's types have it: an SPI that isn't 0 (section 3.1), and a
+-- secret of 32 octets.
 pub record IsDrawn (fresh : Fresh) : Type 0 where
-  pub named : fresh.spi ≢ 0
+  pub nonzero : fresh.spi ≢ 0
   pub secret : IsSecret fresh.secret

@@ -3,3 +3,4 @@ pub mod Exchanged
 pub mod Opening
 pub mod Beside
 pub mod Worked
+pub mod UnderLoad

@@ -37,5 +37,6 @@ pub record IsWorkedOpening {C : Type 0} (a b : C) : Type 0 where
   pub can_be : CanBeMeant (asker_of run_meaning) run_meaning.plain_of
   pub can : CanOpen run_meaning (worked_side A) 0 first_entry (fresh_of 1) (fresh_of 2) shared
   pub exchange : IsExchange (λ _. run_meaning) (worked_side A) (worked_side B) a b 0 (fresh_of 1) (fresh_of 2) (fresh_of 3) p q r
-  -- and so are the premises on gateways that may hold other IKE SAs
+  -- It also meets the premises on gateways that may hold other IKE SAs. These two hold none, and nothing
+  -- comes to either in between.
   pub beside : IsExchangeBeside (λ _. run_meaning) 0 first_entry (fresh_of 1) (fresh_of 2) (fresh_of 3) p q r
