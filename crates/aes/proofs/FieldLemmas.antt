@@ -1,4 +1,5 @@
--- Sums of multiples of four octets by constants, in the field: each such sum is a form, a polynomial for each octet.
+-- Sums of multiples of four octets by constants, in the field: each such sum is a form, a polynomial for each
+-- octet.
 use Rattle.std.proofs.Common.{◌≡◌, ℕ, zero, suc, ◌<◌, ◌+◌, ◌*◌, ◌/◌, ◌%◌, ◌^◌, eqb, bit_xor, Bool, true, false, cond, List, [], ◌∷◌, refl, sym, ap, ◌∙◌, arith, inl, inr, ◌⊎◌}
 use Rattle.std.specs.Int.Bits.{xor_assoc, xor_self, xor_zero_r, xor_comm, xor_lt, xor_shr, xor_mod, xor_block}
 use Rattle.aes.specs.Field.{xtimes, times}

@@ -1,4 +1,5 @@
--- The field of 256 octets, polynomials over two elements modulo x^8 + x^4 + x^3 + x + 1 (FIPS 197, section 4).
+-- The field of 256 octets, polynomials over two elements modulo x^8 + x^4 + x^3 + x + 1 (FIPS 197,
+-- section 4).
 use Rattle.std.specs.Prelude.{ℕ, zero, suc, ◌*◌, ◌/◌, ◌%◌, ◌==◌, bit_xor, if◌then◌else◌}
 
 -- XTIMES: the product with x (section 4.2)

@@ -1,4 +1,5 @@
--- KEYEXPANSION for a key of 256 bits (FIPS 197, section 5.2). A list of words is that of their octets, four a word.
+-- KEYEXPANSION for a key of 256 bits (FIPS 197, section 5.2). A list of words is that of their octets, four a
+-- word.
 use Rattle.std.specs.Prelude.{ℕ, zero, suc, ◌+◌, ◌-◌, ◌*◌, ◌/◌, ◌%◌, ◌^◌, ◌==◌, List, ◌++◌, length, map, slice_index, bit_xor, if◌then◌else◌}
 use Rattle.std.specs.List.{range_with_len}
 use Rattle.aes.specs.Substitution.{sub_byte}

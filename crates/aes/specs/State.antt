@@ -19,7 +19,8 @@ sub_bytes s = state_of (λ r c. sub_byte (cell s r c))
 unfoldable pub inv_sub_bytes : List ℕ → List ℕ
 inv_sub_bytes s = state_of (λ r c. inv_sub_byte (cell s r c))
 
--- SHIFTROWS: s'[r,c] = s[r,(c + r) mod 4] (section 5.1.2), and INVSHIFTROWS: s'[r,c] = s[r,(c - r) mod 4] (section 5.3.1)
+-- SHIFTROWS: s'[r,c] = s[r,(c + r) mod 4] (section 5.1.2), and INVSHIFTROWS: s'[r,c] = s[r,(c - r) mod 4]
+-- (section 5.3.1)
 unfoldable pub shift_rows : List ℕ → List ℕ
 shift_rows s = state_of (λ r c. cell s r ((c + r) % 4))
 
@@ -30,8 +31,8 @@ inv_shift_rows s = state_of (λ r c. cell s r ((c + 4 - r) % 4))
 abbrev pub row_times : ℕ → ℕ → ℕ → ℕ → ℕ → ℕ → ℕ → ℕ → ℕ
 row_times a b c d v0 v1 v2 v3 = bit_xor (times a v0) (bit_xor (times b v1) (bit_xor (times c v2) (times d v3)))
 
--- each column times the matrix whose first row is a b c d and whose further rows are that row, rotated to the right
--- (section 4.3)
+-- each column times the matrix whose first row is a b c d and whose further rows are that row, rotated to the
+-- right (section 4.3)
 abbrev pub columns_times : ℕ → ℕ → ℕ → ℕ → List ℕ → List ℕ
 columns_times a b c d s =
     state_of (λ r k. row_times a b c d (cell s r k) (cell s ((r + 1) % 4) k) (cell s ((r + 2) % 4) k) (cell s ((r + 3) % 4) k))

@@ -17,7 +17,10 @@
 //!
 //! match judge(alloc, &caller, &peer, &proving, payloads.as_slice())? {
 //!     Judgement::Refused(notice) => send(notice.payload(alloc)?),
-//!     Judgement::Accepted(asked) => send_all(answer(alloc, &caller, &own, &proving_back, child_of(&asked.offer)?, 4)?),
+//!     Judgement::Accepted(asked) => {
+//!         let child = child_of(&asked.offer)?;
+//!         send_all(answer(alloc, &caller, &own, &proving_back, child, 4)?)
+//!     }
 //! }
 //!
 //! let established = is_accepted(alloc, &caller, &peer, &proving_back, answered.as_slice())?;

@@ -71,8 +71,8 @@ with_values (size ∷ sizes) (value ∷ values) octets =
     (take size octets ++ value) ++ with_values sizes values (drop (size + 16) octets)
 with_values sizes values octets = octets
 
--- a packet that was laid, with its ICV under this sequence number in place of its last 16 octets; fewer octets
--- are no packet, and stay as they are
+-- a packet that was laid, with its ICV under this sequence number in place of its last 16 octets; fewer
+-- octets are no packet, and stay as they are
 unfoldable pub finished : Sa → ℕ → List ℕ → List ℕ
 finished a n octets =
     if nat_le 16 (length octets) then take (length octets - 16) octets ++ check_value a n (take (length octets - 16) octets) else octets

@@ -41,8 +41,8 @@ pub fn ahead_at(ahead: &[Option<Ahead>], place: usize) -> Option<Ahead>
     }
 }
 
-/// The ICVs of the packets that are asked for, each at its packet's place. `least` is from how many packets on
-/// it gains time to compute them side by side.
+/// The ICVs of the packets that are asked for, each at its packet's place. `least` is from how many packets
+/// on it gains time to compute them side by side.
 pub fn values_ahead(
     association: &Sa,
     packets: &[&[u8]],

@@ -16,7 +16,7 @@
 //! let mut receiver = Inbound::new(256, &key, false, BlockWindow::new(alloc, 2)?);
 //! let mut packet = Vec::new(alloc);
 //! sender.seal(4, payload, &mut packet)?;      // 7
-//! let opened = receiver.open(&packet)?;       // number 7, next header 4, the payload as a slice of the packet
+//! let opened = receiver.open(&packet)?;       // number 7, next header 4, the payload as a slice
 //! receiver.open(&packet)                      // Err(EspFault::Replayed)
 //! ```
 //!

@@ -57,9 +57,9 @@ impl Outbound {
         }
     }
 
-    /// Has lists of so many packets or more have their ICVs computed side by side, where they are alike: 2 is
-    /// right in a build for x86-64-v3. Without it lists begin at [`PACKETS_LEAST`](crate::PACKETS_LEAST), which
-    /// is right for x86-64-v2. Time alone depends on it.
+    /// Has lists of so many packets or more have their ICVs computed side by side, where they are alike:
+    /// 2 is right in a build for x86-64-v3. Without it lists begin at
+    /// [`PACKETS_LEAST`](crate::PACKETS_LEAST), which is right for x86-64-v2. Time alone depends on it.
     pub fn begin_lanes_at(&mut self, packets: usize)
         ensures { self.new ≡ self.old }
     {

@@ -42,7 +42,8 @@ abbrev pub IsAppendedIf : Result Laid AllocError → Octets → Type 0
 IsAppendedIf (Ok what) octets = IsAppended what octets
 IsAppendedIf (Err none) octets = octets ≡ []
 
--- An ESP packet is appended to the buffer, or nothing is. Once the ESP packet has its ICV, this is the output.
+-- An ESP packet is appended to the buffer, or nothing is. Once the ESP packet has its ICV, this is the
+-- output.
 pub record AppendsTo (says : OutputView → Type 0) (before : Octets) (what : Result Laid AllocError) (pairs : PairMap) (after : Octets) : Type 0 where
   pub appended : Octets
   pub after_is : after ≡ before ++ appended

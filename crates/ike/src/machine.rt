@@ -117,15 +117,16 @@ impl Ike {
     /// A command to ask for a Child SA is refused by the first of these:
     /// - [`IkeFault::Unprotected`] (E23);
     /// - with a new IKE SA, E25 where 128 are held, E36, and E37;
-    /// - for an additional child, E28 where no IKE SA has the serial, E32 where it isn't established, E35 where
-    ///   the peer's window is full or the IKE SA is being deleted, and E36; then E25 or E26 by the table;
+    /// - for an additional child, E28 where no IKE SA has the serial, E32 where it isn't established, E35
+    ///   where the peer's window is full or the IKE SA is being deleted, and E36; then E25 or E26 by the
+    ///   table;
     /// - an allocation failure.
     ///
-    /// The commands to probe the peer, and to delete a child or an IKE SA, are refused by the first of these: E28
-    /// where none has the serial, E32 where the IKE SA isn't established or the child is being deleted, E35 and
-    /// E36 as for an additional child, and an allocation failure. A new secret is refused by E36. A tick is
-    /// refused on allocation failure alone, and only where a request is due to be retransmitted or an IKE SA to
-    /// be closed.
+    /// The commands to probe the peer, and to delete a child or an IKE SA, are refused by the first of
+    /// these: E28 where none has the serial, E32 where the IKE SA isn't established or the child is being
+    /// deleted, E35 and E36 as for an additional child, and an allocation failure. A new secret is refused
+    /// by E36. A tick is refused on allocation failure alone, and only where a request is due to be
+    /// retransmitted or an IKE SA to be closed.
     ///
     /// What is refused changes nothing but the table's room. Beside what each input does (`stepped`), `laws`
     /// says what every step keeps to: its moves, who is established, what the trace names and what goes in

@@ -177,9 +177,9 @@ fn write_batch(tasks: &[Task<'_>], values: &mut [[u8; 16]], least: usize)
 
 /// Writes the integrity check value of each message (RFC 4868, section 2.3) into its place of `values`.
 ///
-/// The messages may have any lengths and come in any order. `least` says from how many messages of one length
-/// on eight lanes take less time than one lane alone: [`MESSAGES_LEAST`] in a build for x86-64-v2, 2 in one for
-/// x86-64-v3, where AVX2 gains 4 times by full lanes. No value depends on it.
+/// The messages may have any lengths and come in any order. `least` says from how many messages of one
+/// length on eight lanes take less time than one lane alone: [`MESSAGES_LEAST`] in a build for x86-64-v2,
+/// 2 in one for x86-64-v3, where AVX2 gains 4 times by full lanes. No value depends on it.
 pub fn icv_all(tasks: &[Task<'_>], values: &mut [[u8; 16]], least: usize)
     requires { length values.old ≡ length tasks.now }
     ensures { values.new ≡ map icv_of tasks.now }

@@ -1,5 +1,5 @@
--- A worked step at which a stranger is met: a gateway holds keys, and a datagram asks in clear to delete their
--- IKE SA (RFC 7296 sections 1.4, 1.4.1 and 3.11).
+-- A worked step at which a stranger is met: a gateway holds keys, and a datagram asks in clear to delete
+-- their IKE SA (RFC 7296 sections 1.4, 1.4.1 and 3.11).
 use Rattle.std.specs.Prelude.{◌≡◌, Ok, None, [], ◌∷◌, false, true}
 use Rattle.base.specs.Octets.{Octets}
 use Rattle.wire.specs.Messages.{Spells}
@@ -21,8 +21,8 @@ use Rattle.gateway.specs.declared.fault.Reason.TheVariants.{Ike}
 use Rattle.gateway.specs.Strangers.{CountsForOne, IsAsItWas, IsStrange}
 
 -- INFORMATIONAL with Message ID 2 and a Delete payload of the IKE SA, which isn't encrypted. In order: the
--- SPIs of the IKE SA that is held; next payload Delete, version 2.0, the exchange, flag I, the Message ID, the
--- length; the header of the Delete payload, protocol 1, and no SPI.
+-- SPIs of the IKE SA that is held; next payload Delete, version 2.0, the exchange, flag I, the Message ID,
+-- the length; the header of the Delete payload, protocol 1, and no SPI.
 abbrev pub clear_deletion : Octets
 clear_deletion =
     0 ∷ 0 ∷ 0 ∷ 0 ∷ 0 ∷ 0 ∷ 0 ∷ 1 ∷ 0 ∷ 0 ∷ 0 ∷ 0 ∷ 0 ∷ 0 ∷ 0 ∷ 2 ∷ 42 ∷ 0x20 ∷ 37 ∷ 0x08 ∷ 0 ∷ 0 ∷ 0 ∷ 2 ∷ 0 ∷ 0 ∷ 0 ∷ 36
@@ -44,9 +44,9 @@ deletion_comes {C} config caller from fresh = record {
 }
 
 -- This is a step of a gateway whose invariant holds, under a provider whose laws hold. Its IKE SA is
--- established. The datagram spells a request for that one, and opens under no keys, whatever the cipher; so it
--- is strange, and the gateway stays as it was. The request that the peer may send now counts, with the same
--- SPIs and Message ID.
+-- established. The datagram spells a request for that one, and opens under no keys, whatever the cipher; so
+-- it is strange, and the gateway stays as it was. The request that the peer may send now counts, with the
+-- same SPIs and Message ID.
 pub record IsMetByAStranger {C : Type 0} (config : Config) (caller : C) (from : Octets) (fresh : Fresh) : Type 0 where
   pub is : IsPassage (λ _. worked_meaning) (deletion_comes config caller from fresh)
   pub can_be : CanBeMeant worked_meaning

@@ -1,9 +1,10 @@
--- prf+ over HMAC-SHA-256 (RFC 7296, section 2.13): as many octets as are asked for, up to 8160, from one key and one seed.
+-- prf+ over HMAC-SHA-256 (RFC 7296, section 2.13): as many octets as are asked for, up to 8160, from one key
+-- and one seed.
 use Rattle.std.specs.Prelude.{ℕ, zero, suc, List, [], ◌∷◌, ◌++◌, take}
 use Rattle.mac.specs.Hmac.{hmac_sha256}
 
--- T1 = prf (K, S | 0x01), T2 = prf (K, T1 | S | 0x02), T3 = prf (K, T2 | S | 0x03) and so on, each over the one before
--- it; before T1 there is nothing
+-- T1 = prf (K, S | 0x01), T2 = prf (K, T1 | S | 0x02), T3 = prf (K, T2 | S | 0x03) and so on, each over the
+-- one before it; before T1 there is nothing
 unfoldable pub prf_block : List ℕ → List ℕ → ℕ → List ℕ
 prf_block key seed zero = []
 prf_block key seed (suc i) = hmac_sha256 key (prf_block key seed i ++ seed ++ suc i ∷ [])

@@ -176,8 +176,8 @@ IsPlaceRefusal octets place room why =
     ((¬ LiesIn octets place) × (why ≡ Place))
     ⊎ (LiesIn octets place × (¬ HasRoom (packet_at octets place) room) × (why ≡ ShortRoom))
 
--- The packet at a place is taken, but that its ESP packet has no ICV yet. It stands in the buffer behind those
--- before it, and the buffer is to stand in the room behind what is used of it.
+-- The packet at a place is taken, but that its ESP packet has no ICV yet. It stands in the buffer behind
+-- those before it, and the buffer is to stand in the room behind what is used of it.
 pub record LaysNext (octets : Octets) (room : ℕ) (place : SukPlace) (used : ℕ) (old : State PeerCaller) (buffer : Octets) (told : SukOutput) (span : Span) (new : State PeerCaller) (after : Octets) : Type 0 where
   pub takes : (before : Octets) (spans : List Span) → length before ≡ used → octets_of spans ≡ length buffer
       → TakesOutAt octets room place (record { gateway = old; octets = before ++ finished_row old.table.pairs spans buffer }) told (record { gateway = new; octets = before ++ finished_row new.table.pairs (spans ++ span ∷ []) after })

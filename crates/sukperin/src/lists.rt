@@ -77,7 +77,8 @@ pub extern "C" fn suk_esp_all(
 /// In the record of one packet, which is refused alone: 109 where its place doesn't lie in the buffer, 103
 /// where the room that is left is shorter than the packet and 29 octets, 20 where there is no memory for it.
 /// The handle keeps what it lays packets in, so memory is taken only where a group of up to 64 packets is
-/// longer than each before it. 103, with nothing done, where there are fewer records than places; 101 before that.
+/// longer than each before it. 103, with nothing done, where there are fewer records than places; 101 before
+/// that.
 #[unsafe(no_mangle)]
 pub extern "C" fn suk_outward_all(
     alloc: Global,

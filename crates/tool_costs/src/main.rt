@@ -4,22 +4,25 @@
 //!
 //! ```text
 //! tool_costs hash COUNT OCTETS        SHA-256 of so many octets
-//! tool_costs seal COUNT OCTETS        a payload of so many octets sealed into a packet with an extended number
+//! tool_costs seal COUNT OCTETS        a payload of so many octets sealed into a packet with ESN
 //! tool_costs open COUNT OCTETS        the packet of such a payload opened, each time by a fresh receiver
-//! tool_costs table COUNT PAIRS        of so many pairs the last one found by its SPI, and 1,024 octets sealed by it
-//! tool_costs outbound COUNT PAIRS     of so many pairs, each with one selector a side, the last one found by its flow
+//! tool_costs table COUNT PAIRS        of so many pairs the last found by its SPI, 1,024 octets sealed by it
+//! tool_costs outbound COUNT PAIRS     of so many pairs with one selector a side, the last found by its flow
 //! tool_costs decide COUNT ENTRIES     a flow decided on that only the last of so many entries holds
 //! tool_costs remembered COUNT PAIRS ENTRIES
-//!                                   a packet of 64 octets sealed by the last of so many pairs, its flow, which the last of so many
-//!                                   entries protects, being remembered
+//!                                     a packet of 64 octets sealed by the last of so many pairs; its flow
+//!                                     is remembered, and protected by the last of so many entries
 //! tool_costs source-ports COUNT FLOWS
-//!                                   a packet of 64 octets of each of so many flows, which differ in the source port, sealed; all but
-//!                                   the first turn find the flows remembered, and a policy of 256 entries is passed over
+//!                                     a packet of 64 octets sealed for each of so many flows, which differ
+//!                                     in the source port; all but the first turn find the flows
+//!                                     remembered, and a policy of 256 entries is passed over
 //! tool_costs target-ports COUNT FLOWS
 //! tool_costs hosts COUNT FLOWS
-//! tool_costs hosts6 COUNT FLOWS     the same, of flows that differ in the target port, in the address, in that within one IPv6 /64
-//! tool_costs public COUNT             a public value of the 2048-bit group; half of the secret's bits are set
-//! tool_costs cipher COUNT OCTETS      so many octets sealed as the body of an IKE message, AES-256-CBC and HMAC-SHA-256-128
+//! tool_costs hosts6 COUNT FLOWS       the same, of flows that differ in the target port, in the address, in
+//!                                     the address within one IPv6 /64
+//! tool_costs public COUNT             a public value of the 2048-bit group; half the secret's bits are set
+//! tool_costs cipher COUNT OCTETS      so many octets sealed as the body of an IKE message by AES-256-CBC
+//!                                     and HMAC-SHA-256-128
 //! ```
 //!
 //! It prints an octet of what the last turn made, so that no compiler leaves the work out. The exit

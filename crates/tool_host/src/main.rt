@@ -12,11 +12,13 @@
 //!
 //! | Octets | |
 //! |---|---|
-//! | 1, 1, 4 | the window, 1 to 16; whether ESN is allowed, 0 or not; the blocks of the replay windows, 2, 4, 8 .. 128 |
+//! | 1, 1, 4 | the window, 1 to 16; 0 for no ESN; the blocks of the replay windows, 2, 4, 8 .. 128 |
 //! | 4, 32 | the first inbound SPI; the first secret of cookies |
-//! | 1, 4, block, block | this end: the type of its identity (RFC 7296, section 3.5), its IPv4 address, its identity, its secret |
+//! | 1, 4, block, block | this end: its identity's type (below), its IPv4 address, its identity, its secret |
 //! | 1, 4, block, block | the peer: the same |
 //! | up to the end | the entries of the policy, in their order |
+//!
+//! The types of identities are those of RFC 7296, section 3.5.
 //!
 //! An entry: the action (0 discards, 1 lets go in the clear, 2 protects), the family (4 or 6) and the
 //! protocol (0 for any), of 1 octet each. Then of 2 octets each the first and the last local port, the
@@ -48,7 +50,8 @@
 //! | 8 | the sequence number of an ESP packet, 0 for none |
 //! | 8 | the next time at which a tick does anything, 2^64 - 1 for none |
 //! | 4, then 4 each | how many IKE SAs were closed, and their serials |
-//! | 4, then for each 1, 4, so many | how many datagrams are to be sent, and of each its way (1 by UDP, 2 by IP), its length and its octets |
+//! | 4 | how many datagrams are to be sent |
+//! | for each 1, 4, so many | its way (1 by UDP, 2 by IP), its length, its octets |
 //! | up to the end | the packet that goes up or on |
 //!
 //! An answer of kind 14 has a text as its body: the frame was malformed, and the gateway is as it was.

@@ -9,8 +9,8 @@
 //! ```
 //!
 //! Two gateways hold a Child SA with extended numbers, and COUNT packets of so many octets go from one
-//! to the other. Lists begin lanes at LANES packets. It prints the nanoseconds of the fastest of the rounds. The exit status is 1 where the
-//! words ask for nothing, or a packet doesn't go through.
+//! to the other. Lists begin lanes at LANES packets. It prints the nanoseconds of the fastest of the rounds.
+//! The exit status is 1 where the words ask for nothing, or a packet doesn't go through.
 #![tactic(auto)]
 
 mod packets;

@@ -10,9 +10,9 @@
 //! speed old_all LANES ROUNDS COUNT OCTETS ..   by one call
 //! ```
 //!
-//! COUNT payloads have these sizes in turn, and lists begin lanes at LANES packets. It prints the nanoseconds of the fastest of the rounds, and
-//! an octet of what was made, so that no compiler leaves the work out. The exit status is 1 where the
-//! words ask for nothing, or something is refused.
+//! COUNT payloads have these sizes in turn, and lists begin lanes at LANES packets. It prints the
+//! nanoseconds of the fastest of the rounds, and an octet of what was made, so that no compiler leaves the
+//! work out. The exit status is 1 where the words ask for nothing, or something is refused.
 #![tactic(auto)]
 
 mod receiver;
