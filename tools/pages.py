@@ -17,7 +17,7 @@ USE = re.compile(r"(?:ghost )?use Rattle\.(\w+)\.specs\.([\w.]+)\.\{([^}]*)\}", 
 ITEM = re.compile(r"^( *)pub (?:const )?(fn|struct|enum|trait|const|type)\b")
 MEMBER = re.compile(r"^( +)fn (\w+)")
 NAME = re.compile(r"\b(fn|struct|enum|trait|const|type)\s+(\w+)")
-DEFINITION = re.compile(r"^(?: *(?:abbrev |unfoldable ))?pub (?:record |data )?([A-Za-z_]\w*)\b")
+DEFINITION = re.compile(r"^(?: *(?:abbrev |unfoldable )pub |pub | +pub (?=record |data ))(?:record |data )?([A-Za-z_]\w*)\b")
 CONSTRUCTOR = re.compile(r"^ +(?:pub )?([A-Z]\w*) :")
 PUBLIC_USE = re.compile(r"^pub use ([\w:]+?)::(?:\{([^}]*)\}|(\w+));", re.M | re.S)
 PUBLIC_MOD = re.compile(r"^pub mod (\w+);", re.M)

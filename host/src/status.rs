@@ -45,7 +45,7 @@ pub struct PeerStatus {
     pub address: Ipv4Addr,
     /// Whether this end begins IKE SAs.
     pub begins: bool,
-    /// For how long an IKE SA has stood, if one does.
+    /// For how long an IKE SA has stood, if one does, of the gateway that packets go out by.
     pub up: Option<u64>,
     /// The entries that protect, and those of them that a Child SA carries.
     pub entries: u64,

@@ -645,6 +645,10 @@ fn sighup_takes_what_changed_and_leaves_the_rest() {
     link.ends[0].turn(&reload);
     let calls = take_calls();
     assert!(calls.iter().any(|call| matches!(call, Call::Open { .. })));
+    // The old one still holds its SAs, but packets go by the new one, which has none yet.
+    let status = link.ends[0].status();
+    assert_eq!((status.peers[0].up, status.peers[0].carried), (None, 0));
+    assert!(status.peers[0].children.iter().any(|child| child.live));
     link.pass(10_000);
     assert!(link.is_up());
     let packet = read_of(&to_right(b"by the new one"));

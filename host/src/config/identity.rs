@@ -50,7 +50,7 @@ pub(super) fn read_identity(value: &Value<'_>) -> Result<Identity, ConfigFault> 
     table.finish("type, value")?;
     match kind.text(TYPES)? {
         "fqdn" => {
-            read_name(&content, "a name of 1 to 256 letters, digits, - and .").map(Identity::Fqdn)
+            read_name(&content, "a name of 1 to 256 letters, digits, -, . and _").map(Identity::Fqdn)
         }
         "email" | "rfc822" => read_email(&content),
         "address" => read_address(&content),

@@ -40,9 +40,11 @@ impl<C: Core> Site<C> {
         let associations = self.associations(now);
         let children = self.children(now);
         let settings = self.config.settings();
+        // Packets go out by one gateway. What another one still holds, as after a reload, carries none.
+        let carrier = self.carrier;
         let live: BTreeSet<u32> = children
             .iter()
-            .filter(|child| child.live)
+            .filter(|child| child.live && Some(child.gateway) == carrier)
             .filter_map(|child| child.entry)
             .collect();
         let carried = settings.entries.iter().filter(|entry| live.contains(entry));
@@ -56,7 +58,11 @@ impl<C: Core> Site<C> {
             name: self.config.name.clone(),
             address: self.config.address,
             begins: settings.role == Role::Begins,
-            up: associations.iter().filter_map(|told| told.since).max(),
+            up: associations
+                .iter()
+                .filter(|told| Some(told.gateway) == carrier)
+                .filter_map(|told| told.since)
+                .max(),
             entries: settings.entries.len() as u64,
             carried: carried.count() as u64,
             last_probe: self.last_probe.map(|at| seconds(at, now)),
