@@ -49,9 +49,8 @@ pub(super) fn read_identity(value: &Value<'_>) -> Result<Identity, ConfigFault> 
     let content = table.required("value", "the identity's value")?;
     table.finish("type, value")?;
     match kind.text(TYPES)? {
-        "fqdn" => {
-            read_name(&content, "a name of 1 to 256 letters, digits, -, . and _").map(Identity::Fqdn)
-        }
+        "fqdn" => read_name(&content, "a name of 1 to 256 letters, digits, -, . and _")
+            .map(Identity::Fqdn),
         "email" | "rfc822" => read_email(&content),
         "address" => read_address(&content),
         "key-id" => read_key_id(&content),
