@@ -46,7 +46,7 @@ abbrev nonce_for : Role → KeyRecord → Octets
 nonce_for Initiator keys = keys.nonce_r
 nonce_for Responder keys = keys.nonce_i
 
-signed_octets : (first nonce sk_p : Octets) (kind : ℕ) (id : Octets) → AreOctets first → AreOctets nonce → AreOctets (signed.proved_octets first nonce sk_p kind id)
+pub signed_octets : (first nonce sk_p : Octets) (kind : ℕ) (id : Octets) → AreOctets first → AreOctets nonce → AreOctets (signed.proved_octets first nonce sk_p kind id)
 signed_octets first nonce sk_p kind id one two =
     octets_append (first ++ nonce) (hmac_sha256 sk_p (signed.rest_of_id kind id)) (octets_append first nonce one two) (tag_octets sk_p (signed.rest_of_id kind id))
 

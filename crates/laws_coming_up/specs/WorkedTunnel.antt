@@ -8,7 +8,9 @@ use Rattle.laws_two_ends.specs.WorkedRuns.{run_meaning}
 use Rattle.laws_opening.specs.Worked.{first_entry, worked_side}
 use Rattle.laws_opening.specs.Opening.{CanOpen}
 use Rattle.laws_coming_up.specs.ComingUp.{PoliciesMeet}
+use Rattle.laws_coming_up.specs.ComingUpBeside.{HasPlace}
 use Rattle.laws_coming_up.specs.BringingUp.{AreSetUp, CanProveItself}
+use Rattle.laws_coming_up.specs.BringingUpBeside.{AreSetUpBeside}
 
 -- There is such a tunnel, whatever the callers' values, for a caller that there can be.
 pub record IsWorkedTunnel {C : Type 0} (a b : C) : Type 0 where
@@ -24,3 +26,7 @@ pub record IsWorkedTunnel {C : Type 0} (a b : C) : Type 0 where
   pub other_proves : CanProveItself (worked_side B) (worked_side A) run_meaning run_meaning
   pub set_up : AreSetUp (λ _. run_meaning) (worked_side A) (worked_side B) a b 0 (fresh_of 1) (fresh_of 2) (fresh_of 3) p q r s t
   pub meet : PoliciesMeet (worked_side B).entries first_entry
+  -- It also meets the premises on gateways that may hold other IKE SAs and pairs. These two hold none, and
+  -- nothing comes to either in between.
+  pub beside : AreSetUpBeside (λ _. run_meaning) 0 first_entry (fresh_of 1) (fresh_of 2) (fresh_of 3) shared p q r s t
+  pub place : HasPlace s.before.table

@@ -1,0 +1,68 @@
+-- A tunnel between two gateways that may hold other IKE SAs and other pairs, as after a loss, by IKE_SA_INIT
+-- and IKE_AUTH (RFC 7296 section 1.2).
+use Rattle.std.specs.Prelude.{◌≡◌, ℕ, None, Some, IsTrue}
+use Rattle.base.specs.Octets.{AreOctets, Octets}
+use Rattle.policy.specs.declared.entry.Entry.{Entry}
+use Rattle.suite.specs.declared.fresh.Fresh.{Fresh}
+use Rattle.exchange.specs.declared.notices.Notice.{Notice}
+use Rattle.setup.specs.declared.config.Config.{Config}
+use Rattle.effects.specs.Taking.{Meaning}
+use Rattle.ike.specs.Moves.{HasSeal}
+use Rattle.gateway.specs.Histories.{IsPassage, Passage}
+use Rattle.gateway.specs.Outputs.{Reply, Request}
+use Rattle.laws_opening.specs.Beside.{next_child, IsExchangeBeside, OpensBeside}
+use Rattle.laws_opening.specs.Exchanged.{IsDrawn}
+use Rattle.laws_coming_up.specs.ComingUp.{Brings}
+use Rattle.laws_coming_up.specs.ComingUpBeside.{meeting_by, AwaitsAnswer, AwaitsIdentity, ComesUpBeside, ComesUpWithoutChildBeside}
+
+-- An end that is set so can prove to another who it is, whatever octets it has to prove: the other is
+-- configured for its identity, and the other's caller accepts what its own caller makes as a proof of it
+-- (section 2.15).
+pub record CanBeKnown (own other : Config) (meaning theirs : Meaning) : Type 0 where
+  pub named : other.peer.identity ≡ own.own.identity
+  pub proved : (octets : Octets) → AreOctets octets
+      → IsTrue (theirs.accepts own.own.identity.kind own.own.identity.data meaning.own_method octets (meaning.proof_of octets))
+
+-- Both exchanges, in five steps. The one can begin an IKE SA, and the other has room for it. Each datagram
+-- that goes out comes to the other end as it was sent, while that still waits for it: so the other is half
+-- open still as the request of IKE_AUTH comes, and the one waits still as the response comes. Whatever else
+-- comes to either in between. Memory runs out at neither.
+pub record AreSetUpBeside {C : Type 0} (meaning_of : C → Meaning) (place : ℕ) (entry : Entry) (asking answering reading : Fresh) (shared : Octets) (p q r s t : Passage C) : Type 0 where
+  -- IKE_SA_INIT
+  pub opens : IsExchangeBeside meaning_of place entry asking answering reading p q r
+  pub agrees : (meaning_of q.before.caller).shared_secret answering.secret ((meaning_of q.before.caller).public_value asking.secret) ≡ Some shared
+  -- what is fresh is drawn rightly, and octets, as the code's types have it
+  pub asking_drawn : IsDrawn asking
+  pub answering_drawn : IsDrawn answering
+  pub asking_nonce : AreOctets asking.nonce
+  pub answering_nonce : AreOctets answering.nonce
+  pub seal : HasSeal reading
+  -- the request of IKE_AUTH comes
+  pub accepts : IsPassage meaning_of s
+  pub asked : (octets : Octets) → r.said ≡ Request opens.waits.association.serial octets → Brings octets s
+  pub half_open : AwaitsIdentity (meeting_by asking answering shared opens.request opens.response (next_child entry p.before)) s.before.machine.held
+  -- the response comes
+  pub concludes : IsPassage meaning_of t
+  pub answered : (octets : Octets) → s.said ≡ Reply octets None → Brings octets t
+  pub waits : AwaitsAnswer (meeting_by asking answering shared opens.request opens.response (next_child entry p.before)) t.before.machine.held
+  -- the one is set as it was when it told who it is, and has the same caller
+  pub config_stays : t.before.machine.config ≡ r.before.machine.config
+  pub caller_stays : t.before.caller ≡ r.before.caller
+  -- each can prove to the other who it is
+  pub one_known : CanBeKnown t.before.machine.config s.before.machine.config (meaning_of t.before.caller) (meaning_of s.before.caller)
+  pub other_known : CanBeKnown s.before.machine.config t.before.machine.config (meaning_of s.before.caller) (meaning_of t.before.caller)
+
+-- Both have one record of keys, and hold an IKE SA that is established under it, with mirrored pairs of its
+-- first Child SA. All else that they hold stays.
+pub record HaveTunnelBeside {C : Type 0} (meaning_of : C → Meaning) (place : ℕ) (entry : Entry) (asking answering reading : Fresh) (shared : Octets) (p q r s t : Passage C)
+    (are : AreSetUpBeside meaning_of place entry asking answering reading shared p q r s t) : Type 0 where
+  pub opened : OpensBeside meaning_of place entry asking answering reading shared p q r are.opens
+  pub up : ComesUpBeside (meaning_of s.before.caller) (meeting_by asking answering shared are.opens.request are.opens.response (next_child entry p.before)) s t
+      are.half_open are.waits
+
+-- both hold the IKE SA, but no new pair, and the response had this notification
+pub record HaveNoChildBeside {C : Type 0} (meaning_of : C → Meaning) (place : ℕ) (entry : Entry) (asking answering reading : Fresh) (shared : Octets) (notice : Notice) (p q r s t : Passage C)
+    (are : AreSetUpBeside meaning_of place entry asking answering reading shared p q r s t) : Type 0 where
+  pub opened : OpensBeside meaning_of place entry asking answering reading shared p q r are.opens
+  pub up : ComesUpWithoutChildBeside (meaning_of s.before.caller) (meeting_by asking answering shared are.opens.request are.opens.response (next_child entry p.before)) notice s t
+      are.half_open are.waits
