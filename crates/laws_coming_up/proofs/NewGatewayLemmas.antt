@@ -26,7 +26,7 @@ use Rattle.gateway.specs.States.{IsSoundState, State}
 use Rattle.laws_opening.specs.Beside.{next_spi}
 use Rattle.laws_opening.specs.Opened.{asked_child, auth_message, holding, initiator_opened, opened, responder_opened, telling, Opening, Side}
 use Rattle.laws_coming_up.specs.ComingUp.{answer_message, answer_on, pair_on, table_untouched, table_with, table_without, Accepts, AcceptsWithChild, AcceptsWithoutChild, AreAgreed, Brings, CanBeMade, Concludes, ConcludesWithChild, ConcludesWithoutChild, IsKnownTo, IsSentBy, PoliciesMeet}
-use Rattle.laws_coming_up.specs.ComingUpBeside.{adding, answer_in, as_before, becoming, installing, pair_in, releasing, told_on, AcceptsBeside, AreTermsIn, AwaitsAnswer, AwaitsIdentity, CanAskFor, ConcludesBeside, HasPlace, IsKnownIn, Meeting, PolicyMeets}
+use Rattle.laws_coming_up.specs.ComingUpBeside.{adding, answer_in, as_before, becoming, installing, pair_in, releasing, told_on, AcceptsBeside, AreTermsIn, AwaitsAnswer, AwaitsIdentity, CanAskFor, ConcludesBeside, HasPlace, IsKnownIn, Meeting, PolicyMeetsChild}
 use Rattle.laws_coming_up.proofs.TableLemmas.{taken_out}
 use Rattle.laws_coming_up.proofs.BesideLemmas.{identity_waits}
 use Rattle.laws_coming_up.proofs.InitiatorLemmas as initiator
@@ -122,7 +122,7 @@ module _ {C : Type 0} (meaning_of : C → Meaning) (a b : C) (one other : Side) 
     pub accepts_with_child : PoliciesMeet other.entries o.entry → AcceptsWithChild (meaning_of b) one other b o q
     accepts_with_child meets =
         let g = responder.accepts_with_child meaning_of (meaning_of a) one.config d auth q laws is brings half_open can_ask known_so
-        (record { fresh = sent.fresh; seal = sent.seal; sealed = sent.sealed }) (subst (λ (s : State C). PolicyMeets s.entries d.child) (sym before) meets) has_place in
+        (record { fresh = sent.fresh; seal = sent.seal; sealed = sent.sealed }) (subst (λ (s : State C). PolicyMeetsChild s.entries d.child) (sym before) meets) has_place in
         record {
           terms = g.terms;
           agreed = agreed_so g.terms g.agreed;
@@ -137,7 +137,7 @@ module _ {C : Type 0} (meaning_of : C → Meaning) (a b : C) (one other : Side) 
     accepts_without_child cannot =
         let g = responder.accepts_without_child meaning_of (meaning_of a) one.config d auth q laws is brings half_open can_ask known_so
         (record { fresh = sent.fresh; seal = sent.seal; sealed = sent.sealed })
-        (λ meets. cannot (subst (λ (s : State C). PolicyMeets s.entries d.child) before meets)) in
+        (λ meets. cannot (subst (λ (s : State C). PolicyMeetsChild s.entries d.child) before meets)) in
         record {
           room = g.room;
           accepts = accepts_so (told.Notice TsUnacceptable) (as_before q.before.table g.room) (response.Refused TsUnacceptable) (table_untouched other.start g.room) refl

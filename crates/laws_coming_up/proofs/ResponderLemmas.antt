@@ -21,7 +21,7 @@ use Rattle.ike.specs.Machines.{setup_at, Held}
 use Rattle.ike.specs.Soundness.{At}
 use Rattle.gateway.specs.Histories.{IsPassage, Passage}
 use Rattle.laws_coming_up.specs.ComingUp.{Brings}
-use Rattle.laws_coming_up.specs.ComingUpBeside.{identity_in, pair_in, proved_in, told_on, AcceptsBeside, AcceptsWithChildBeside, AcceptsWithoutChildBeside, AwaitsIdentity, CanAskFor, HasPlace, IsKnownIn, IsSealedIn, Meeting, PolicyMeets}
+use Rattle.laws_coming_up.specs.ComingUpBeside.{identity_in, pair_in, proved_in, told_on, AcceptsBeside, AcceptsWithChildBeside, AcceptsWithoutChildBeside, AwaitsIdentity, CanAskFor, HasPlace, IsKnownIn, IsSealedIn, Meeting, PolicyMeetsChild}
 use Rattle.laws_coming_up.proofs.TableLemmas.{responder_adds, responder_adds_none}
 use Rattle.laws_coming_up.proofs.AnsweringLemmas.{JudgesOnce}
 use Rattle.laws_coming_up.proofs.OfferLemmas.{ChoosesOnce, OffersAreAcceptable}
@@ -106,7 +106,7 @@ module _ {C : Type 0} (meaning_of : C → Meaning) (asker : Meaning) (one : Conf
       q.before.table again.plain again.payloads step.effect step.changed step.new_table reply in
       accepts_by waits.made again.sealed step at
 
-  pub accepts_with_child : PolicyMeets q.before.entries d.child → HasPlace q.before.table → AcceptsWithChildBeside meaning one d q waits
+  pub accepts_with_child : PolicyMeetsChild q.before.entries d.child → HasPlace q.before.table → AcceptsWithChildBeside meaning one d q waits
   accepts_with_child meets has =
       let s = accepts_step in
       let on = answers_on_terms laws.offers_acceptable laws.chooses_once d can.least can.most (first_setting config number d.keys) config.extended q.before.entries
@@ -132,14 +132,14 @@ module _ {C : Type 0} (meaning_of : C → Meaning) (asker : Meaning) (one : Conf
             (subst (λ (r : Response). AcceptsBeside meaning one d (child_answer r) s.table q waits) refused s.accepts);
       }
 
-  pub accepts_without_child : ¬ PolicyMeets q.before.entries d.child → AcceptsWithoutChildBeside meaning one d TsUnacceptable q waits
+  pub accepts_without_child : ¬ PolicyMeetsChild q.before.entries d.child → AcceptsWithoutChildBeside meaning one d TsUnacceptable q waits
   accepts_without_child cannot =
       let s = accepts_step in
       refused_by TsUnacceptable s
       (answers_none laws.offers_acceptable laws.chooses_once d can.least can.most (first_setting config number d.keys) config.extended q.before.entries
       q.before.table cannot s.answer s.child)
 
-  pub accepts_no_more : PolicyMeets q.before.entries d.child → TakesNoMore q.before.table → AcceptsWithoutChildBeside meaning one d NoAdditionalSas q waits
+  pub accepts_no_more : PolicyMeetsChild q.before.entries d.child → TakesNoMore q.before.table → AcceptsWithoutChildBeside meaning one d NoAdditionalSas q waits
   accepts_no_more meets takes =
       let s = accepts_step in
       refused_by NoAdditionalSas s

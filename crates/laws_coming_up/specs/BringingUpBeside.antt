@@ -24,12 +24,13 @@ pub record CanBeKnown (own other : Config) (meaning theirs : Meaning) : Type 0 w
       → IsTrue (theirs.accepts own.own.identity.kind own.own.identity.data meaning.own_method octets (meaning.proof_of octets))
 
 -- Both exchanges, in five steps. The one can begin an IKE SA, and the other has room for it. Each datagram
--- that goes out comes to the other end as it was sent, while that still waits for it: so the other is half
--- open still as the request of IKE_AUTH comes, and the one waits still as the response comes. Whatever else
--- comes to either in between. Memory runs out at neither.
+-- that goes out comes to the other end as it was sent, whatever else came to either in between. It is
+-- presumed that the IKE SA is still half open as the request of IKE_AUTH comes to the other, and that the
+-- one still waits as the response comes. Memory runs out at neither.
 pub record AreSetUpBeside {C : Type 0} (meaning_of : C → Meaning) (place : ℕ) (entry : Entry) (asking answering reading : Fresh) (shared : Octets) (p q r s t : Passage C) : Type 0 where
   -- IKE_SA_INIT
   pub opens : IsExchangeBeside meaning_of place entry asking answering reading p q r
+  -- the responder comes to a secret by what the initiator sends (section 2.14)
   pub agrees : (meaning_of q.before.caller).shared_secret answering.secret ((meaning_of q.before.caller).public_value asking.secret) ≡ Some shared
   -- what is fresh is drawn rightly, and octets, as the code's types have it
   pub asking_drawn : IsDrawn asking
@@ -45,22 +46,23 @@ pub record AreSetUpBeside {C : Type 0} (meaning_of : C → Meaning) (place : ℕ
   pub concludes : IsPassage meaning_of t
   pub answered : (octets : Octets) → s.said ≡ Reply octets None → Brings octets t
   pub waits : AwaitsAnswer (meeting_by asking answering shared opens.request opens.response (next_child entry p.before)) t.before.machine.held
-  -- the one is set as it was when it told who it is, and has the same caller
+  -- the one is set as it was when it told who it is, and has the same caller; no step changes either
   pub config_stays : t.before.machine.config ≡ r.before.machine.config
   pub caller_stays : t.before.caller ≡ r.before.caller
   -- each can prove to the other who it is
   pub one_known : CanBeKnown t.before.machine.config s.before.machine.config (meaning_of t.before.caller) (meaning_of s.before.caller)
   pub other_known : CanBeKnown s.before.machine.config t.before.machine.config (meaning_of s.before.caller) (meaning_of t.before.caller)
 
--- Both have one record of keys, and hold an IKE SA that is established under it, with mirrored pairs of its
--- first Child SA. All else that they hold stays.
+-- By its last step each establishes the new IKE SA, under one record of keys, and makes its pair of the first
+-- Child SA; the pairs mirror each other. No step of these five changes anything else that either holds.
 pub record HaveTunnelBeside {C : Type 0} (meaning_of : C → Meaning) (place : ℕ) (entry : Entry) (asking answering reading : Fresh) (shared : Octets) (p q r s t : Passage C)
     (are : AreSetUpBeside meaning_of place entry asking answering reading shared p q r s t) : Type 0 where
   pub opened : OpensBeside meaning_of place entry asking answering reading shared p q r are.opens
   pub up : ComesUpBeside (meaning_of s.before.caller) (meeting_by asking answering shared are.opens.request are.opens.response (next_child entry p.before)) s t
       are.half_open are.waits
 
--- both hold the IKE SA, but no new pair, and the response had this notification
+-- Each establishes the new IKE SA by its last step, and makes no pair. The response had this notification. No
+-- step of these five changes anything else that either holds.
 pub record HaveNoChildBeside {C : Type 0} (meaning_of : C → Meaning) (place : ℕ) (entry : Entry) (asking answering reading : Fresh) (shared : Octets) (notice : Notice) (p q r s t : Passage C)
     (are : AreSetUpBeside meaning_of place entry asking answering reading shared p q r s t) : Type 0 where
   pub opened : OpensBeside meaning_of place entry asking answering reading shared p q r are.opens

@@ -18,8 +18,8 @@ use Rattle.gateway.specs.Outputs.{wants_memory, Sealed, Up}
 use Rattle.gateway.specs.States.{State}
 use Rattle.laws_coming_up.specs.ComingUpBeside.{pair_in, Meeting}
 
--- The end of this role holds its pair of the Child SA as IKE_AUTH made it, under the IKE SA with this serial.
--- The pair has that serial, and none came later.
+-- The end of this role holds its pair of the Child SA as IKE_AUTH made it: it belongs to the IKE SA with the
+-- serial `ike`, and has sent and received nothing. The pair's own serial is `serial`, and none came later.
 pub record HoldsNewPair {C : Type 0} (role : Role) (d : Meeting) (ike serial : ℕ) (terms : Terms) (s : State C) : Type 0 where
   pub there : pair_at s.table.pairs serial ≡ Some (record (pair_in role s.machine.config d ike terms) { serial = serial })
   pub last : s.table.next ≡ serial + 1

@@ -129,8 +129,8 @@ pub record CanAskFor (config : Config) (child : AskedChildView) : Type 0 where
 
 -- some entry of the policy meets what is asked for: what one end calls its own side the other calls remote
 -- (section 2.9)
-abbrev pub PolicyMeets : List Entry → AskedChildView → Type 0
-PolicyMeets entries child = IsAcceptableOffer entries (child.local ∷ []) (child.remote ∷ [])
+abbrev pub PolicyMeetsChild : List Entry → AskedChildView → Type 0
+PolicyMeetsChild entries child = IsAcceptableOffer entries (child.local ∷ []) (child.remote ∷ [])
 
 -- the table has a place for one more pair, and an SPI
 pub record HasPlace (table : Database) : Type 0 where
@@ -140,7 +140,7 @@ pub record HasPlace (table : Database) : Type 0 where
 -- ---- what comes of it
 
 -- The IKE SA is established under the keys, with this serial. Its windows are those that both ends are
--- configured for (section 2.3). Of its Message IDs no more is said here.
+-- configured for (section 2.3). Nothing is said here of its Message IDs, nor of the responses that it keeps.
 pub record IsStandingIn (role : Role) (own other : Config) (d : Meeting) (number : ℕ) (a : Association) : Type 0 where
   pub serial : a.serial ≡ number
   pub role_is : a.role ≡ role
@@ -172,7 +172,7 @@ told_on extended terms = told.Payloads (child_response (Esp extended) (chosen_on
 abbrev pub pair_in : Role → Config → Meeting → ℕ → Terms → Pair
 pair_in role config d number terms = new_pair role (first_setting config number d.keys) terms
 
--- the table, once this pair came under the next SPI and the next serial
+-- the table, once this pair came under the next SPI and the next serial; `room` is any, as it is below
 abbrev pub adding : Database → Pair → ℕ → Database
 adding table pair room =
     record table { given = table.given + 1; next = table.next + 1; pairs = map.insert table.pairs table.next (record pair { serial = table.next }); room = room }
@@ -190,7 +190,8 @@ releasing table spi room = record table { reserved = set.remove table.reserved s
 abbrev pub as_before : Database → ℕ → Database
 as_before table room = record table { room = room }
 
--- the gateway with this IKE SA at this place, and with this table; all else is as it was
+-- the gateway with this IKE SA at this place, and with this table; all else is as it was, the time, the
+-- cookie secrets and the next serial of an IKE SA too
 abbrev pub becoming : {C : Type 0} → State C → ℕ → Association → Database → State C
 becoming {C} s place a table = record s { machine = with_at s.machine place a; table = table }
 
@@ -240,9 +241,10 @@ pub record ConcludesWithoutChildBeside {C : Type 0} (other : Config) (d : Meetin
 
 -- ---- both in a row
 
--- What is presumed of an exchange of IKE_AUTH between two gateways, whatever else they hold. The one waits
--- for the response, and the other is half open. Each can prove to the other who it is. The request comes to
--- the other as the one sent it; and what the other answers, if it does, comes to the one.
+-- What is presumed of an exchange of IKE_AUTH between two gateways, whatever else they hold. The responder's
+-- IKE SA is half open, the initiator's waits for the response, and both have the keys of this meeting. Each
+-- can prove to the other who it is. The request comes to the responder as the initiator sent it; and what
+-- the responder answers, if it does, comes to the initiator.
 pub record AreInExchangeBeside {C : Type 0} (meaning_of : C → Meaning) (d : Meeting) (auth : Octets) (q r : Passage C) : Type 0 where
   -- the responder's step
   pub answers : IsPassage meaning_of q

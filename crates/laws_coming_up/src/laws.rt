@@ -37,7 +37,7 @@ ghost use Rattle.laws_coming_up.specs.ComingUpBeside.{AreInExchangeBeside, AreTe
 ghost use Rattle.laws_coming_up.specs.ComingUpBeside.{AwaitsAnswer, AwaitsIdentity};
 ghost use Rattle.laws_coming_up.specs.ComingUpBeside.{CanAskFor, ComesUpBeside, ComesUpWithoutChildBeside};
 ghost use Rattle.laws_coming_up.specs.ComingUpBeside.{ConcludesWithChildBeside, ConcludesWithoutChildBeside};
-ghost use Rattle.laws_coming_up.specs.ComingUpBeside.{HasPlace, IsKnownIn, IsSealedIn, PolicyMeets};
+ghost use Rattle.laws_coming_up.specs.ComingUpBeside.{HasPlace, IsKnownIn, IsSealedIn, PolicyMeetsChild};
 ghost use Rattle.laws_coming_up.specs.BringingUpBeside.{AreSetUpBeside, HaveNoChildBeside, HaveTunnelBeside};
 ghost use Rattle.laws_coming_up.specs.Carrying.{CarriesTheFirst, GoesThrough, HoldsItsPair, IsToGoOut};
 ghost use Rattle.laws_coming_up.specs.CarryingBeside.{Arrives, CarriesTheFirstBeside, GoesThroughBeside};
@@ -217,7 +217,7 @@ pub fn two_new_gateways_bring_a_tunnel_up<C: Sealer + Agreement + Proof>(caller:
 /// - `childless`: where none does, it makes no pair, and the response has TS_UNACCEPTABLE in place of the
 ///   terms (section 2.9).
 /// - `crowded`: where one does, but the table has no place or no SPI left, it makes no pair either, and the
-///   response has NO_ADDITIONAL_SAS (section 1.3).
+///   response has NO_ADDITIONAL_SAS in place of the terms (section 1.3). The IKE SA stands (section 1.2).
 pub fn a_half_open_gateway_accepts_an_identity<C: Sealer + Agreement + Proof>(caller: &C)
     ensures child { (one : Config) (d : Meeting) (a : C) (auth : Octets) (q : Passage C)
         → IsPassage (meaning_of C.Sealer C.Agreement C.Proof) q → Brings auth q
@@ -226,7 +226,7 @@ pub fn a_half_open_gateway_accepts_an_identity<C: Sealer + Agreement + Proof>(ca
         (meaning_of C.Sealer C.Agreement C.Proof q.before.caller) d
         → IsSealedIn Initiator (meaning_of C.Sealer C.Agreement C.Proof a) d
         (identity_in (meaning_of C.Sealer C.Agreement C.Proof a) one d) auth
-        → PolicyMeets q.before.entries d.child → HasPlace q.before.table
+        → PolicyMeetsChild q.before.entries d.child → HasPlace q.before.table
         → AcceptsWithChildBeside (meaning_of C.Sealer C.Agreement C.Proof q.before.caller) one d q waits }
     ensures childless { (one : Config) (d : Meeting) (a : C) (auth : Octets) (q : Passage C)
         → IsPassage (meaning_of C.Sealer C.Agreement C.Proof) q → Brings auth q
@@ -235,7 +235,7 @@ pub fn a_half_open_gateway_accepts_an_identity<C: Sealer + Agreement + Proof>(ca
         (meaning_of C.Sealer C.Agreement C.Proof q.before.caller) d
         → IsSealedIn Initiator (meaning_of C.Sealer C.Agreement C.Proof a) d
         (identity_in (meaning_of C.Sealer C.Agreement C.Proof a) one d) auth
-        → ¬ PolicyMeets q.before.entries d.child
+        → ¬ PolicyMeetsChild q.before.entries d.child
         → AcceptsWithoutChildBeside
         (meaning_of C.Sealer C.Agreement C.Proof q.before.caller) one d TsUnacceptable q waits }
     ensures crowded { (one : Config) (d : Meeting) (a : C) (auth : Octets) (q : Passage C)
@@ -245,7 +245,7 @@ pub fn a_half_open_gateway_accepts_an_identity<C: Sealer + Agreement + Proof>(ca
         (meaning_of C.Sealer C.Agreement C.Proof q.before.caller) d
         → IsSealedIn Initiator (meaning_of C.Sealer C.Agreement C.Proof a) d
         (identity_in (meaning_of C.Sealer C.Agreement C.Proof a) one d) auth
-        → PolicyMeets q.before.entries d.child → TakesNoMore q.before.table
+        → PolicyMeetsChild q.before.entries d.child → TakesNoMore q.before.table
         → AcceptsWithoutChildBeside
         (meaning_of C.Sealer C.Agreement C.Proof q.before.caller) one d NoAdditionalSas q waits }
 {
@@ -260,9 +260,9 @@ pub fn a_half_open_gateway_accepts_an_identity<C: Sealer + Agreement + Proof>(ca
     what_is_spelled_has_no_fault();
 }
 
-/// A gateway that waits for the response to IKE_AUTH ends the exchange, whatever else it holds, where that
-/// comes as the responder sent it, and the responder is known there (RFC 7296, section 1.2): the IKE SA is
-/// established, unless memory runs out. All else that it holds stays.
+/// A gateway that waits for the response to IKE_AUTH ends the exchange where that comes as the responder
+/// sent it, and the responder is known there (RFC 7296, section 1.2). Then the IKE SA is established, unless
+/// memory runs out. This step changes nothing else that it holds, whatever that is.
 ///
 /// - `child`: where the response tells the terms of the Child SA, it makes its pair on them, under the SPI
 ///   that it reserved and the next serial.
@@ -300,9 +300,10 @@ pub fn a_gateway_that_waits_concludes<C: Sealer + Agreement + Proof>(caller: &C)
 }
 
 /// By IKE_AUTH the tunnel comes up, whatever else both gateways hold, as after a loss (RFC 7296, section
-/// 1.2). The request comes to the responder as the initiator sent it, the response comes to the initiator as
-/// the responder sent it, each is known to the other, and memory runs out at neither. Then both hold the IKE
-/// SA, established under one record of keys. All else that they hold stays.
+/// 1.2). The responder's IKE SA is half open, the initiator's waits for the response, and both have the keys
+/// of one IKE_SA_INIT. The request comes to the responder as the initiator sent it, and the response comes
+/// to the initiator as the responder sent it. Each is known to the other, and memory runs out at neither.
+/// Then each end establishes its IKE SA under these keys. Neither step changes anything else that it holds.
 ///
 /// - `child`: where some entry of the responder's policy meets what is asked for, and its table has a place
 ///   and an SPI left, both hold a new pair, and the pairs mirror each other.
@@ -312,17 +313,17 @@ pub fn a_gateway_that_waits_concludes<C: Sealer + Agreement + Proof>(caller: &C)
 pub fn it_comes_up_beside_all_else<C: Sealer + Agreement + Proof>(caller: &C)
     ensures child { (d : Meeting) (auth : Octets) (q r : Passage C)
         → (are : AreInExchangeBeside (meaning_of C.Sealer C.Agreement C.Proof) d auth q r)
-        → PolicyMeets q.before.entries d.child → HasPlace q.before.table
+        → PolicyMeetsChild q.before.entries d.child → HasPlace q.before.table
         → ComesUpBeside (meaning_of C.Sealer C.Agreement C.Proof q.before.caller) d q r
         are.half_open are.waits }
     ensures childless { (d : Meeting) (auth : Octets) (q r : Passage C)
         → (are : AreInExchangeBeside (meaning_of C.Sealer C.Agreement C.Proof) d auth q r)
-        → ¬ PolicyMeets q.before.entries d.child
+        → ¬ PolicyMeetsChild q.before.entries d.child
         → ComesUpWithoutChildBeside (meaning_of C.Sealer C.Agreement C.Proof q.before.caller) d TsUnacceptable
         q r are.half_open are.waits }
     ensures crowded { (d : Meeting) (auth : Octets) (q r : Passage C)
         → (are : AreInExchangeBeside (meaning_of C.Sealer C.Agreement C.Proof) d auth q r)
-        → PolicyMeets q.before.entries d.child → TakesNoMore q.before.table
+        → PolicyMeetsChild q.before.entries d.child → TakesNoMore q.before.table
         → ComesUpWithoutChildBeside
         (meaning_of C.Sealer C.Agreement C.Proof q.before.caller) d NoAdditionalSas
         q r are.half_open are.waits }
@@ -331,11 +332,11 @@ pub fn it_comes_up_beside_all_else<C: Sealer + Agreement + Proof>(caller: &C)
     a_gateway_that_waits_concludes::<C>(caller);
 }
 
-/// So IKE_SA_INIT leaves both, whatever else they hold.
+/// IKE_SA_INIT leaves both gateways as IKE_AUTH needs them, whatever else they hold.
 ///
 /// - `half_open`: a gateway that answered the request waits for that of IKE_AUTH.
 /// - `waits`: a gateway that took the answer up waits for the response to its request of IKE_AUTH.
-pub fn both_wait_then<C>()
+pub fn ike_sa_init_leaves_both_waiting<C>()
     ensures half_open { (meaning : Meaning) (asking answering : Fresh) (shared request : Octets)
         (child : AskedChildView) (q : Passage C)
         → (answers : AnswersBeside meaning asking answering shared request q)
@@ -350,9 +351,11 @@ pub fn both_wait_then<C>()
 {}
 
 /// Two gateways bring a tunnel up, whatever other IKE SAs and pairs they hold, as after a loss (RFC 7296,
-/// section 1.2). The one is told to begin by an entry of its policy which protects. From then on what goes
-/// out of either comes to the other as it was sent, while that waits for it. Each can prove to the other who
-/// it is, and memory runs out at neither. Then both hold a new IKE SA, established under one record of keys.
+/// section 1.2). The one is told to begin by an entry of its policy which protects. Both have room for one
+/// more IKE SA, the one's table can give an SPI, and the other asks for no cookie. What goes out of either
+/// comes to the other as it was sent, and finds the IKE SA that waits for it there, with its keys. The other
+/// comes to a shared secret. Each can prove to the other who it is, and memory runs out at neither. Then each
+/// establishes a new IKE SA by its last step, under one record of keys.
 ///
 /// - `child`: where some entry of the other's policy meets that entry, and the other's table has a place and
 ///   an SPI left, both hold a pair of the Child SA, and the pairs mirror each other.
@@ -360,7 +363,9 @@ pub fn both_wait_then<C>()
 /// - `crowded`: where one does, but the other's table has no place or no SPI left, neither holds a new pair,
 ///   and the response had NO_ADDITIONAL_SAS.
 ///
-/// Whatever came to either in between, no step of these five changes anything else that they hold.
+/// Anything may come to either in between. It is presumed, and not promised, that the new IKE SA still waits
+/// after it: [`ike_sa_init_leaves_both_waiting`] has it where nothing came. What came in between may change
+/// other things that they hold; of these five steps none does.
 pub fn two_gateways_bring_a_tunnel_up<C: Sealer + Agreement + Proof>(caller: &C)
     ensures child { (place : ℕ) (entry : Entry) (asking answering reading : Fresh) (shared : Octets)
         (p q r s t : Passage C)
@@ -390,12 +395,12 @@ pub fn two_gateways_bring_a_tunnel_up<C: Sealer + Agreement + Proof>(caller: &C)
     two_gateways_come_to_keys::<C>(caller);
 }
 
-/// Two new gateways that bring a tunnel up as above are such gateways: so what is presumed of gateways with a
-/// past is met wherever what is presumed of new ones is.
+/// Where the premises of [`two_new_gateways_bring_a_tunnel_up`] hold, those of
+/// [`two_gateways_bring_a_tunnel_up`] do: new gateways are a case of gateways that may hold more.
 ///
 /// - `set_up`: the five steps are as they have to be.
 /// - `place`: the other's table has a place and an SPI left.
-pub fn new_ones_are_set_up_so<C: Sealer + Agreement + Proof>(caller: &C)
+pub fn new_gateways_meet_these_premises<C: Sealer + Agreement + Proof>(caller: &C)
     ensures set_up { (one other : Side) (a b : C) (place : ℕ) (entry : Entry)
         (asking answering reading : Fresh) (shared : Octets) (p q r s t : Passage C)
         → CanOpen (meaning_of C.Sealer C.Agreement C.Proof a) one place entry asking answering shared
@@ -425,11 +430,13 @@ pub fn new_ones_are_set_up_so<C: Sealer + Agreement + Proof>(caller: &C)
     two_new_gateways_come_to_keys::<C>(caller);
 }
 
-/// Two new gateways that brought a tunnel up have room for another, beside that one: so what is presumed of
-/// what a gateway holds is met by gateways with a past.
+/// Two new gateways that brought a tunnel up have room for another beside it, in the same roles. So what is
+/// presumed of room can be met by gateways that hold an IKE SA and a pair. Five more steps from there aren't
+/// shown.
 ///
-/// - `begins`: the one can begin an IKE SA again, by any entry of its policy which protects.
-/// - `answers`: the other can answer any request of IKE_SA_INIT.
+/// - `begins`: the one has room to begin another IKE SA, by any entry of its policy which protects, with a
+///   fresh SPI that is neither 0 nor that of the IKE SA that it holds.
+/// - `answers`: the other has room to answer a request of IKE_SA_INIT, with such an SPI of its own.
 /// - `place`: and its table has a place and an SPI left.
 pub fn a_tunnel_leaves_room_for_another<C>()
     ensures begins { (meaning_of : C → Meaning) (one other : Side) (a b : C) (entry : Entry)
@@ -495,10 +502,11 @@ pub fn a_tunnel_carries_packets<C>()
     the_first_packet_goes_through::<C>();
 }
 
-/// The first packet that is given to go out at one end of a Child SA which just came up goes through by it
-/// (RFC 4301, sections 5.1 and 5.2). So it is whatever other pairs both ends hold, as those of a tunnel that
-/// was lost. It goes out sealed by the new pair, unless memory runs out. Its octets, where they come to the
-/// other end, make it go up there, whole and unchanged.
+/// The first packet that is given to go out at one end of a Child SA which just came up goes through by its
+/// new pair (RFC 4301, sections 5.1 and 5.2). The policy has to protect the packet's flow, and the terms of
+/// the Child SA have to cover it. So it is whatever other pairs both ends hold, as those of a tunnel that was
+/// lost. It goes out sealed by the new pair, unless memory runs out. Its octets, where they come to the other
+/// end, make it go up there, whole and unchanged. Of later packets nothing is said here.
 pub fn the_first_packet_goes_by_the_new_pair<C>()
     ensures { (meaning_of : C → Meaning) (role : Role) (d : Meeting) (ike serial far_ike far_serial : ℕ)
         (terms : Terms) (packet : Octets) (u v : Passage C)
@@ -513,9 +521,10 @@ pub fn the_first_packet_goes_by_the_new_pair<C>()
     what_one_end_seals_the_other_hands_up();
 }
 
-/// So it is in both directions between two gateways that brought a tunnel up, whatever else they hold: the
-/// new tunnel takes over from one that was lost.
-pub fn a_new_tunnel_takes_over<C>()
+/// So it is in both directions between two gateways that brought a tunnel up, whatever else they hold. Each
+/// end is as its last step of IKE_AUTH left it. A packet that the terms cover goes by the new pair then, even
+/// where a pair of a lost tunnel covers it too.
+pub fn a_new_tunnel_carries_packets<C>()
     ensures there { (meaning_of : C → Meaning) (place : ℕ) (entry : Entry)
         (asking answering reading : Fresh) (shared : Octets) (p q r s t : Passage C)
         (are : AreSetUpBeside meaning_of place entry asking answering reading shared p q r s t)

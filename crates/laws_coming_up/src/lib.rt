@@ -15,26 +15,30 @@
 //!   other. Where they don't, both ends hold the IKE SA alone, and the response had TS_UNACCEPTABLE.
 //! - [`laws::two_new_gateways_bring_a_tunnel_up`]: both exchanges in one, from two new gateways on.
 //!
-//! Of gateways that may hold other IKE SAs and other pairs, as after a loss. All else that they hold stays:
+//! Of gateways that may hold other IKE SAs and other pairs, as after a loss. No step changes any of these:
 //!
 //! - [`laws::a_half_open_gateway_accepts_an_identity`] and [`laws::a_gateway_that_waits_concludes`]: the
-//!   same steps of IKE_AUTH. A table with no place or no SPI left makes the response NO_ADDITIONAL_SAS.
+//!   same steps of IKE_AUTH. Where the policy meets what is asked for, but the responder's table has no place
+//!   or no SPI left, the response has NO_ADDITIONAL_SAS in place of the terms.
 //! - [`laws::it_comes_up_beside_all_else`]: both in one.
-//! - [`laws::both_wait_then`]: IKE_SA_INIT leaves both so.
-//! - [`laws::two_gateways_bring_a_tunnel_up`]: both exchanges in one. Gateways that lost each other come by
-//!   it to a new tunnel, whatever IKE SAs of the old one they still hold.
-//! - [`laws::new_ones_are_set_up_so`]: new gateways are such gateways, and
-//!   [`laws::a_tunnel_leaves_room_for_another`]: so are, by what they hold, those that brought a tunnel up.
+//! - [`laws::ike_sa_init_leaves_both_waiting`]: so that these steps can follow.
+//! - [`laws::two_gateways_bring_a_tunnel_up`]: both exchanges in one. Gateways that lost each other come to a
+//!   new tunnel by it, where both have room for one, whatever IKE SAs of the old one they still hold.
+//! - [`laws::new_gateways_meet_these_premises`]: new gateways are a case of it, and
+//!   [`laws::a_tunnel_leaves_room_for_another`]: two that brought a tunnel up have room to begin another, in
+//!   the same roles.
 //!
 //! Of the tunnel:
 //!
 //! - [`laws::the_terms_cover_what_both_entries_hold`]: for which flows the Child SA is.
 //! - [`laws::the_first_packet_goes_through`]: the first packet that one of its ends is given goes up at the
 //!   other, and [`laws::a_tunnel_carries_packets`]: so it is between these two gateways, in both directions.
-//! - [`laws::the_first_packet_goes_by_the_new_pair`] and [`laws::a_new_tunnel_takes_over`]: so it is whatever
-//!   pairs of older tunnels both ends still hold.
+//! - [`laws::the_first_packet_goes_by_the_new_pair`] and [`laws::a_new_tunnel_carries_packets`]: the first
+//!   packet that the new terms cover goes by the new pair, whatever pairs of older tunnels both ends still
+//!   hold.
 //! - [`laws::the_premises_of_a_tunnel_are_met`]: there are such gateways, and there is such a run. It also
-//!   meets what is presumed of gateways that may hold more.
+//!   meets what is presumed of gateways that may hold more, but both of its gateways hold nothing else. Of
+//!   TS_UNACCEPTABLE, of NO_ADDITIONAL_SAS and of packets no such run is shown here.
 //!
 //! # How it is proved
 //!

@@ -1,6 +1,6 @@
 use Rattle.effects.specs.Taking.{meaning_of}
 use Rattle.laws_coming_up.proofs.SetUpLemmas.{has_place, is_beside, set_up_beside}
-use Rattle.laws_coming_up.proofs.laws.new_ones_are_set_up_so.Goals as goal
+use Rattle.laws_coming_up.proofs.laws.new_gateways_meet_these_premises.Goals as goal
 
 pub returns-clause-set_up : goal.returns-clause-set_up
 returns-clause-set_up g c one other a b place entry asking answering reading shared p q r s t can one_can other_can are =

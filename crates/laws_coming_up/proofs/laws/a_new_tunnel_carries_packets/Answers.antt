@@ -2,7 +2,7 @@ use Rattle.exchange.specs.declared.headers.Role.TheVariants.{Initiator, Responde
 use Rattle.laws_opening.specs.Beside.{next_child}
 use Rattle.laws_coming_up.specs.ComingUpBeside.{meeting_by}
 use Rattle.laws_coming_up.proofs.CarryingLemmas.{added_is_new, installed_is_new}
-use Rattle.laws_coming_up.proofs.laws.a_new_tunnel_takes_over.Goals as goal
+use Rattle.laws_coming_up.proofs.laws.a_new_tunnel_carries_packets.Goals as goal
 
 pub returns-clause-there : goal.returns-clause-there
 returns-clause-there g c = λ meaning_of place entry asking answering reading shared p q r s t are tunnel packet u v is before goes comes before_too arrives.
