@@ -10,7 +10,6 @@ use Rattle.policy.specs.declared.entry.Entry.{Entry}
 use Rattle.suite.specs.declared.fresh.Fresh.{Fresh}
 use Rattle.exchange.specs.Headers.{keys_of}
 use Rattle.exchange.specs.Sealed.{IsSealed}
-use Rattle.exchange.specs.declared.headers.Role.{Role}
 use Rattle.exchange.specs.declared.headers.Role.TheVariants.{Initiator, Responder}
 use Rattle.association.specs.AskedChildren.{AskedChildView}
 use Rattle.association.specs.Issuing.{new_request}
@@ -21,12 +20,15 @@ use Rattle.auth.specs.Proofs.{octets_to_prove}
 use Rattle.setup.specs.declared.config.Config.{Config}
 use Rattle.initial.specs.Beginning.{half_open}
 use Rattle.effects.specs.Taking.{Meaning}
+use Rattle.ike.specs.Moves.{HasSeal}
 use Rattle.gateway.specs.Histories.{Passage}
 use Rattle.gateway.specs.States.{State}
 use Rattle.laws_opening.specs.Beside.{next_child, told_by, AnswersBeside, OpensBeside, StillWaits, TakesUpBeside}
 use Rattle.laws_opening.specs.Exchanged.{keys_from}
+use Rattle.laws_opening.specs.UnderLoad.{OpensUnderLoad}
 use Rattle.laws_coming_up.specs.ComingUpBeside.{identity_in, meeting_by, proved_in, AreInExchangeBeside, AwaitsAnswer, AwaitsIdentity, CanAskFor, IsKnownIn, IsSealedIn, Meeting}
 use Rattle.laws_coming_up.specs.BringingUpBeside.{AreSetUpBeside, CanBeKnown}
+use Rattle.laws_coming_up.specs.BringingUpUnderLoad.{AreSetUpUnderLoad}
 use Rattle.laws_coming_up.proofs.BringingLemmas.{signed_octets}
 use Rattle.laws_coming_up.proofs.ConcludingLemmas.{waiting_so}
 
@@ -94,47 +96,73 @@ can_ask {C} meaning_of d auth q r are =
 
 -- ---- both exchanges
 
-pub known : (role : Role) (own other : Config) (meaning theirs : Meaning) (d : Meeting) → AreOctets (octets_to_prove (proved_in role d) own.own.identity)
-    → CanBeKnown own other meaning theirs → IsKnownIn role own other meaning theirs d
-known role own other meaning theirs d octets can = record { named = can.named; proved = can.proved (octets_to_prove (proved_in role d) own.own.identity) octets }
+-- what one end proves itself over is octets, as the message of IKE_SA_INIT and the nonce are
+pub initiator_known : (one other : Config) (meaning theirs : Meaning) (d : Meeting) → AreOctets d.request → AreOctets d.keys.nonce_r
+    → CanBeKnown one other meaning theirs → IsKnownIn Initiator one other meaning theirs d
+initiator_known one other meaning theirs d request nonce can =
+    let id = one.own.identity in
+    record { named = can.named; proved = can.proved (octets_to_prove (proved_in Initiator d) id) (signed_octets d.request d.keys.nonce_r d.keys.sk_pi id.kind id.data request nonce) }
 
-module _ {C : Type 0} (meaning_of : C → Meaning) (place : ℕ) (entry : Entry) (asking answering reading : Fresh) (shared : Octets) (p q r s t : Passage C)
+pub responder_known : (one other : Config) (meaning theirs : Meaning) (d : Meeting) → AreOctets d.response → AreOctets d.keys.nonce_i
+    → CanBeKnown one other meaning theirs → IsKnownIn Responder one other meaning theirs d
+responder_known one other meaning theirs d response nonce can =
+    let id = one.own.identity in
+    record { named = can.named; proved = can.proved (octets_to_prove (proved_in Responder d) id) (signed_octets d.response d.keys.nonce_i d.keys.sk_pr id.kind id.data response nonce) }
+
+-- what was sealed by the one as it was then
+pub sealed_then : {C : Type 0} (meaning_of : C → Meaning) (d : Meeting) (reading : Fresh) (auth : Octets) (r t : Passage C) → HasSeal reading
+    → t.before.machine.config ≡ r.before.machine.config → t.before.caller ≡ r.before.caller
+    → IsSealed (meaning_of r.before.caller).body_of (keys_of Initiator d.keys) reading.seal (identity_in (meaning_of r.before.caller) r.before.machine.config d) auth
+    → IsSealedIn Initiator (meaning_of t.before.caller) d (identity_in (meaning_of t.before.caller) t.before.machine.config d) auth
+sealed_then {C} meaning_of d reading auth r t seal config caller sealed = record {
+  fresh = reading;
+  seal = seal;
+  sealed =
+      subst (λ (c : Config). IsSealed (meaning_of t.before.caller).body_of (keys_of Initiator d.keys) reading.seal (identity_in (meaning_of t.before.caller) c d) auth) (sym config)
+      (subst (λ (c : C). IsSealed (meaning_of c).body_of (keys_of Initiator d.keys) reading.seal (identity_in (meaning_of c) r.before.machine.config d) auth) (sym caller) sealed);
+}
+
+abbrev pub in_exchange_beside : {C : Type 0} (meaning_of : C → Meaning) (place : ℕ) (entry : Entry) (asking answering reading : Fresh) (shared : Octets) (p q r s t : Passage C)
     (are : AreSetUpBeside meaning_of place entry asking answering reading shared p q r s t)
-    (h : OpensBeside meaning_of place entry asking answering reading shared p q r are.opens) where
-  abbrev d : Meeting
-  d = meeting_by asking answering shared are.opens.request are.opens.response (next_child entry p.before)
+    (h : OpensBeside meaning_of place entry asking answering reading shared p q r are.opens)
+    → AreInExchangeBeside meaning_of (meeting_by asking answering shared are.opens.request are.opens.response (next_child entry p.before)) h.takes_up.auth s t
+in_exchange_beside {C} meaning_of place entry asking answering reading shared p q r s t are h =
+    let d = meeting_by asking answering shared are.opens.request are.opens.response (next_child entry p.before) in
+    record {
+      answers = are.accepts;
+      half_open = are.half_open;
+      asked = are.asked h.takes_up.auth h.takes_up.said;
+      ends = are.concludes;
+      waits = are.waits;
+      answered = are.answered;
+      initiator_known =
+          initiator_known t.before.machine.config s.before.machine.config (meaning_of t.before.caller) (meaning_of s.before.caller) d
+          (subst AreOctets h.request_is h.asks.spelled.octets) are.answering_nonce are.one_known;
+      responder_known =
+          responder_known s.before.machine.config t.before.machine.config (meaning_of s.before.caller) (meaning_of t.before.caller) d
+          (subst AreOctets h.response_is h.answers.spelled.octets) are.asking_nonce are.other_known;
+      sent = sealed_then meaning_of d reading h.takes_up.auth r t are.seal are.config_stays are.caller_stays h.takes_up.sealed;
+    }
 
-  pub one_octets : AreOctets (octets_to_prove (proved_in Initiator d) t.before.machine.config.own.identity)
-  one_octets =
-      signed_octets d.request d.keys.nonce_r d.keys.sk_pi t.before.machine.config.own.identity.kind t.before.machine.config.own.identity.data
-      (subst (λ (x : Octets). AreOctets x) h.request_is h.asks.spelled.octets) are.answering_nonce
-
-  pub other_octets : AreOctets (octets_to_prove (proved_in Responder d) s.before.machine.config.own.identity)
-  other_octets =
-      signed_octets d.response d.keys.nonce_i d.keys.sk_pr s.before.machine.config.own.identity.kind s.before.machine.config.own.identity.data
-      (subst (λ (x : Octets). AreOctets x) h.response_is h.answers.spelled.octets) are.asking_nonce
-
-  -- what was sealed by the one as it was then
-  pub sealed : IsSealedIn Initiator (meaning_of t.before.caller) d (identity_in (meaning_of t.before.caller) t.before.machine.config d) h.takes_up.auth
-  sealed = record {
-    fresh = reading;
-    seal = are.seal;
-    sealed =
-        subst (λ (c : Config). IsSealed (meaning_of t.before.caller).body_of (keys_of Initiator d.keys) reading.seal (identity_in (meaning_of t.before.caller) c d) h.takes_up.auth)
-        (sym are.config_stays)
-        (subst (λ (c : C). IsSealed (meaning_of c).body_of (keys_of Initiator d.keys) reading.seal (identity_in (meaning_of c) r.before.machine.config d) h.takes_up.auth)
-        (sym are.caller_stays) h.takes_up.sealed);
-  }
-
-  abbrev pub in_exchange_beside : AreInExchangeBeside meaning_of d h.takes_up.auth s t
-  in_exchange_beside = record {
-    answers = are.accepts;
-    half_open = are.half_open;
-    asked = are.asked h.takes_up.auth h.takes_up.said;
-    ends = are.concludes;
-    waits = are.waits;
-    answered = are.answered;
-    initiator_known = known Initiator t.before.machine.config s.before.machine.config (meaning_of t.before.caller) (meaning_of s.before.caller) d one_octets are.one_known;
-    responder_known = known Responder s.before.machine.config t.before.machine.config (meaning_of s.before.caller) (meaning_of t.before.caller) d other_octets are.other_known;
-    sent = sealed;
-  }
+-- under load the request is the one with the cookie
+abbrev pub in_exchange_under_load : {C : Type 0} (meaning_of : C → Meaning) (place : ℕ) (entry : Entry) (asking delaying bringing answering reading : Fresh) (shared : Octets) (p l b q r s t : Passage C)
+    (are : AreSetUpUnderLoad meaning_of place entry asking delaying bringing answering reading shared p l b q r s t)
+    (h : OpensUnderLoad meaning_of place entry asking delaying bringing answering reading shared p l b q r are.opens)
+    → AreInExchangeBeside meaning_of (meeting_by asking answering shared are.opens.again are.opens.response (next_child entry p.before)) h.takes_up.auth s t
+in_exchange_under_load {C} meaning_of place entry asking delaying bringing answering reading shared p l b q r s t are h =
+    let d = meeting_by asking answering shared are.opens.again are.opens.response (next_child entry p.before) in
+    record {
+      answers = are.accepts;
+      half_open = are.half_open;
+      asked = are.asked h.takes_up.auth h.takes_up.said;
+      ends = are.concludes;
+      waits = are.waits;
+      answered = are.answered;
+      initiator_known =
+          initiator_known t.before.machine.config s.before.machine.config (meaning_of t.before.caller) (meaning_of s.before.caller) d
+          (subst AreOctets h.again_is h.brings.spelled.octets) are.answering_nonce are.one_known;
+      responder_known =
+          responder_known s.before.machine.config t.before.machine.config (meaning_of s.before.caller) (meaning_of t.before.caller) d
+          (subst AreOctets h.response_is h.answers.spelled.octets) are.asking_nonce are.other_known;
+      sent = sealed_then meaning_of d reading h.takes_up.auth r t are.seal are.config_stays are.caller_stays h.takes_up.sealed;
+    }

@@ -39,6 +39,8 @@ ghost use Rattle.laws_coming_up.specs.ComingUpBeside.{CanAskFor, ComesUpBeside, 
 ghost use Rattle.laws_coming_up.specs.ComingUpBeside.{ConcludesWithChildBeside, ConcludesWithoutChildBeside};
 ghost use Rattle.laws_coming_up.specs.ComingUpBeside.{HasPlace, IsKnownIn, IsSealedIn, PolicyMeetsChild};
 ghost use Rattle.laws_coming_up.specs.BringingUpBeside.{AreSetUpBeside, HaveNoChildBeside, HaveTunnelBeside};
+ghost use Rattle.laws_coming_up.specs.BringingUpUnderLoad.{AreSetUpUnderLoad, HaveNoChildUnderLoad};
+ghost use Rattle.laws_coming_up.specs.BringingUpUnderLoad.{HaveTunnelUnderLoad};
 ghost use Rattle.laws_coming_up.specs.Carrying.{CarriesTheFirst, GoesThrough, HoldsItsPair, IsToGoOut};
 ghost use Rattle.laws_coming_up.specs.CarryingBeside.{Arrives, CarriesTheFirstBeside, GoesThroughBeside};
 ghost use Rattle.laws_coming_up.specs.CarryingBeside.{HoldsNewPair, IsToGoOutBeside};
@@ -50,6 +52,7 @@ use gateway::laws::the_protected_never_goes_in_the_clear;
 use laws_opening::laws::{
     a_gateway_that_can_begin_asks, a_new_gateway_answers, a_new_gateway_asks,
     two_gateways_come_to_keys, two_new_gateways_come_to_keys,
+    under_load_a_cookie_takes_one_round_more,
 };
 use laws_two_ends::laws::the_premises_are_met_from_new_gateways_on;
 use suite::{Agreement, Proof, Sealer};
@@ -393,6 +396,63 @@ pub fn two_gateways_bring_a_tunnel_up<C: Sealer + Agreement + Proof>(caller: &C)
 {
     it_comes_up_beside_all_else::<C>(caller);
     two_gateways_come_to_keys::<C>(caller);
+}
+
+/// Two gateways bring a tunnel up where the other is under load, whatever other IKE SAs and pairs they hold
+/// (RFC 7296, sections 1.2 and 2.6). The other asks for a cookie first, and the one brings it, which takes
+/// one round more.
+///
+/// The one is told to begin by an entry of its policy which protects. It has room for one more IKE SA, and
+/// its table can give an SPI. The cookie comes to it while its request doesn't carry that one already, and
+/// few cookies were brought so far. Both its requests come to the other from one address. As the second
+/// comes, the other still knows the secret of the cookie, which may have changed once since. It has room for
+/// one more IKE SA then, and fewer are half open than there can be at most.
+///
+/// What goes out of either comes to the other as it was sent, and finds the IKE SA that waits for it there,
+/// with its keys. The other comes to a shared secret. Each can prove to the other who it is: the one over the
+/// request with the cookie, the other over its response (section 2.15). Memory runs out at neither. Then each
+/// establishes a new IKE SA by its last step, under one record of keys.
+///
+/// - `child`: where some entry of the other's policy meets that entry, and the other's table has a place and
+///   an SPI left, both hold a pair of the Child SA, and the pairs mirror each other.
+/// - `childless`: where none does, neither holds a new pair, and the response had TS_UNACCEPTABLE.
+/// - `crowded`: where one does, but the other's table has no place or no SPI left, neither holds a new pair,
+///   and the response had NO_ADDITIONAL_SAS.
+///
+/// Anything may come to either in between. It is presumed, and not promised, that the new IKE SA still waits
+/// after it: at the one as the cookie and both responses come, at the other as the request of IKE_AUTH does.
+/// What came in between may change other things that they hold; of these seven steps none does.
+pub fn under_load_two_gateways_bring_a_tunnel_up<C: Sealer + Agreement + Proof>(caller: &C)
+    ensures child { (place : ℕ) (entry : Entry) (asking delaying bringing answering reading : Fresh)
+        (shared : Octets) (p l b q r s t : Passage C)
+        → (are : AreSetUpUnderLoad
+        (meaning_of C.Sealer C.Agreement C.Proof)
+        place entry asking delaying bringing answering reading shared p l b q r s t)
+        → PoliciesMeet s.before.entries entry → HasPlace s.before.table
+        → HaveTunnelUnderLoad
+        (meaning_of C.Sealer C.Agreement C.Proof)
+        place entry asking delaying bringing answering reading shared p l b q r s t are }
+    ensures childless { (place : ℕ) (entry : Entry) (asking delaying bringing answering reading : Fresh)
+        (shared : Octets) (p l b q r s t : Passage C)
+        → (are : AreSetUpUnderLoad
+        (meaning_of C.Sealer C.Agreement C.Proof)
+        place entry asking delaying bringing answering reading shared p l b q r s t)
+        → ¬ PoliciesMeet s.before.entries entry
+        → HaveNoChildUnderLoad
+        (meaning_of C.Sealer C.Agreement C.Proof)
+        place entry asking delaying bringing answering reading shared TsUnacceptable p l b q r s t are }
+    ensures crowded { (place : ℕ) (entry : Entry) (asking delaying bringing answering reading : Fresh)
+        (shared : Octets) (p l b q r s t : Passage C)
+        → (are : AreSetUpUnderLoad
+        (meaning_of C.Sealer C.Agreement C.Proof)
+        place entry asking delaying bringing answering reading shared p l b q r s t)
+        → PoliciesMeet s.before.entries entry → TakesNoMore s.before.table
+        → HaveNoChildUnderLoad
+        (meaning_of C.Sealer C.Agreement C.Proof)
+        place entry asking delaying bringing answering reading shared NoAdditionalSas p l b q r s t are }
+{
+    it_comes_up_beside_all_else::<C>(caller);
+    under_load_a_cookie_takes_one_round_more::<C>(caller);
 }
 
 /// Where the premises of [`two_new_gateways_bring_a_tunnel_up`] hold, those of

@@ -24,6 +24,8 @@
 //! - [`laws::ike_sa_init_leaves_both_waiting`]: so that these steps can follow.
 //! - [`laws::two_gateways_bring_a_tunnel_up`]: both exchanges in one. Gateways that lost each other come to a
 //!   new tunnel by it, where both have room for one, whatever IKE SAs of the old one they still hold.
+//! - [`laws::under_load_two_gateways_bring_a_tunnel_up`]: the same where the other is under load, and asks
+//!   for a cookie first. IKE_SA_INIT takes one round more then.
 //! - [`laws::new_gateways_meet_these_premises`]: new gateways are a case of it, and
 //!   [`laws::a_tunnel_leaves_room_for_another`]: two that brought a tunnel up have room to begin another, in
 //!   the same roles.
@@ -38,7 +40,7 @@
 //!   hold.
 //! - [`laws::the_premises_of_a_tunnel_are_met`]: there are such gateways, and there is such a run. It also
 //!   meets what is presumed of gateways that may hold more, but both of its gateways hold nothing else. Of
-//!   TS_UNACCEPTABLE, of NO_ADDITIONAL_SAS and of packets no such run is shown here.
+//!   load, of TS_UNACCEPTABLE, of NO_ADDITIONAL_SAS and of packets no such run is shown here.
 //!
 //! # How it is proved
 //!
@@ -50,7 +52,7 @@
 //! `AnsweringLemmas` and `EndingLemmas` find what is decided there, by the laws of [`auth`] on judgements.
 //! `ChildLemmas` has the terms of the Child SA, by the laws of [`suite`] on choices, and `TableLemmas` what
 //! becomes of the table. `ResponderLemmas` and `InitiatorLemmas` join them, and `BesideLemmas` both
-//! exchanges.
+//! exchanges, under load too.
 //!
 //! All that is of gateways that may hold more. `NewGatewayLemmas` has new ones as a case of it, and
 //! `BringingLemmas` both exchanges of these. `CarryingLemmas` has a packet at both tables, by the law of
