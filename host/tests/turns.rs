@@ -852,7 +852,7 @@ fn interfaces_and_routes_change_hands_at_once() {
         }
         assert_eq!(end.system.inside.len(), 2);
     }
-    assert_eq!(end.system.logged("times)"), 0, "nothing went wrong");
+    assert_eq!(end.system.logged("so far)"), 0, "nothing went wrong");
 }
 
 /// A policy of two entries, of which both ends protect both.

@@ -61,7 +61,7 @@ impl<C: Core> Daemon<C> {
         if let Some(count) = self.unclaimed.log.note(UNREAD, now) {
             system.log(
                 Level::Warning,
-                &format!("reading {what}: {error} ({count} times)"),
+                &format!("reading {what}: {error} ({count} so far)"),
             );
         }
     }

@@ -362,7 +362,7 @@ impl<C: Core> Site<C> {
         if let Some(count) = self.refusals.note(code, around.now) {
             let words = words_of(code);
             let line = format!(
-                "peer {}: {what} refused: E{code}, {words} ({count} times)",
+                "peer {}: {what} refused: E{code}, {words} ({count} so far)",
                 self.config.name
             );
             around.log(Level::Warning, &line);
@@ -377,7 +377,7 @@ impl<C: Core> Site<C> {
         what: &str,
     ) {
         if let Some(count) = self.troubles.note(trouble as u32, around.now) {
-            let line = format!("peer {}: {what} ({count} times)", self.config.name);
+            let line = format!("peer {}: {what} ({count} so far)", self.config.name);
             around.log(Level::Warning, &line);
         }
     }
