@@ -115,8 +115,8 @@ pub fn a_request_goes_out_six_times<C>()
 }
 
 /// Whatever was lost or closed before, by `Start` a new IKE SA begins (RFC 7296, section 1.2). That both ends
-/// then come to keys is said in `laws_opening`. That it is established is said of new gateways alone, in
-/// `laws_coming_up`. Of every step of every history of a gateway with this input:
+/// then come to keys is said in `laws_opening`, and that it is established in `laws_coming_up`. Of every step
+/// of every history of a gateway with this input:
 ///
 /// - `exactly`: an IKE SA begins, its request of IKE_SA_INIT goes out, and waits for its answer, exactly
 ///   where one may begin and there is memory.
