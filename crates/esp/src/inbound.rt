@@ -12,7 +12,6 @@ ghost use Rattle.esp.specs.Delivery.{AnswersFirst, IsStop, JudgesAtMostOnce, Jud
 
 use crate::ahead::{Ahead, Asked, ahead_at, values_ahead};
 use crate::check_values::GROUP;
-use crate::key::IntegrityKey;
 use crate::load::{PACKETS_LEAST, gain_by_lanes};
 use crate::packet::{
     CHECK, HEAD, contents, high_half, is_check_value, is_judged_length, low_half_of,
@@ -20,6 +19,7 @@ use crate::packet::{
 use crate::precomputed::{Precomputed, Question, own_of};
 use crate::sa::Sa;
 use crate::{EspFault, ListFault, ListStop};
+use lanes::LaneKey;
 use replay::{Judgement, Window, recover};
 use std::marker::Model;
 
@@ -62,7 +62,7 @@ impl<W: Window> Inbound<W> {
           window = W.seen window;
         } }
     {
-        let key = IntegrityKey::new(key);
+        let key = LaneKey::new(key);
         Inbound {
             association: Sa { spi, key, extended },
             window,

@@ -37,7 +37,6 @@ mod ahead;
 mod check_values;
 mod fault;
 mod inbound;
-mod key;
 pub mod laws;
 mod load;
 mod outbound;

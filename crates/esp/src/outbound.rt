@@ -9,13 +9,13 @@ ghost use Rattle.esp.specs.Progress.{EndsRightly, UsesRoom};
 ghost use Rattle.esp.specs.declared.fault.EspFault.{EspFault};
 
 use crate::check_values::{GROUP, write_check_values};
-use crate::key::IntegrityKey;
 use crate::load::{PACKETS_LEAST, gain_by_lanes};
 use crate::packet::{CHECK, HEAD, PAYLOAD_LIMIT, TAIL, head_of, least_padding};
 use crate::precomputed::{Precomputed, Question, own_of};
 use crate::progress::Progress;
 use crate::sa::Sa;
 use crate::{EspFault, ListStop};
+use lanes::LaneKey;
 use std::marker::Model;
 
 // The padding is a beginning of these octets (RFC 4303 section 2.4).
@@ -49,7 +49,7 @@ impl Outbound {
           last = last;
         } }
     {
-        let key = IntegrityKey::new(key);
+        let key = LaneKey::new(key);
         Outbound {
             association: Sa { spi, key, extended },
             last,

@@ -6,9 +6,8 @@ ghost use Rattle.esp.specs.Ahead.{IsAhead, value_of};
 ghost use Rattle.esp.specs.Packet.{check_value, number_limit};
 
 use crate::ahead::Ahead;
-use crate::key::IntegrityKey;
 use crate::packet::{CHECK, high_half, unsent_of};
-use lanes::Task;
+use lanes::{LaneKey, Task};
 
 /// What the two ends of a one-way SA agree on (RFC 4301 section 4.1).
 #[derive(Drop)]
@@ -16,7 +15,7 @@ pub struct Sa {
     /// The security parameters index, which each of its packets begins with.
     pub spi: u32,
     /// The integrity key of 32 octets, prepared once.
-    pub key: IntegrityKey,
+    pub key: LaneKey,
     /// Whether sequence numbers have 64 bits, of which 32 are sent (RFC 4303 section 2.2.1), or 32.
     pub extended: bool,
 }
@@ -65,7 +64,7 @@ impl Sa {
             (covered.now ++ (if self.now.extended then half.now else [])) }
     {
         Task {
-            key: self.key.prepared(),
+            key: &self.key,
             octets: covered,
             more: unsent_of(self.extended, half),
         }

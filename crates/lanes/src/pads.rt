@@ -2,13 +2,14 @@
 ghost use Rattle.std.specs.Prelude.{◌≡◌, ℕ, ◌≤◌, List, length};
 ghost use Rattle.sha2.specs.Sha256.{initial_hash_256};
 ghost use Rattle.mac.specs.Hmac.{hmac_block, pad_with};
-ghost use Rattle.lanes.specs.Key.{HasStates};
+ghost use Rattle.lanes.specs.Key.{HasHashers, HasStates};
 ghost use Rattle.lanes.specs.Lane.{IsLane, lane};
 
 use crate::blocks::{state_of_lane, words_in_lanes};
 use crate::constants::INITIAL_HASH;
 use crate::rounds::compress;
 use crate::words::each;
+use sha2::{Digest, Sha256};
 use std::simd::prelude::*;
 
 const INNER_PAD: u8 = 0x36;
@@ -58,4 +59,15 @@ pub(crate) fn states(key: &[u8; 32]) -> ([u32; 8], [u32; 8])
     let words = words_in_lanes([inner, outer, inner, inner, inner, inner, inner, inner]);
     let states = compress(initial(), words);
     (state_of_lane(&states, 0), state_of_lane(&states, 1))
+}
+
+// SHA-256 that has taken the inner pad, and SHA-256 that has taken the outer one.
+pub(crate) fn hashers(key: &[u8; 32]) -> (Sha256, Sha256)
+    ensures { HasHashers key.now result.0 result.1 }
+{
+    let block = key_block(key);
+    (
+        Sha256::new_with_prefix(padded(&block, INNER_PAD)),
+        Sha256::new_with_prefix(padded(&block, OUTER_PAD)),
+    )
 }
