@@ -11,3 +11,4 @@ pub mod Issuing
 pub mod Ordering
 pub mod Outcomes
 pub mod Sending
+pub mod Admitting

@@ -2,10 +2,11 @@
 //! SA a message is for, and what its Message ID, exchange and sealing allow it to be.
 //!
 //! An [`Association`] has its SPIs, its requests and the peer's ([`requests`]), and a [`Phase`] with what
-//! that phase alone has. [`find`] tells which of a list a message is for, and [`receive`] what is to be
-//! made of it: the payloads of a request or of a response, the reply that was sent before, or a
-//! [`MessageFault`]. What payloads say and do is nothing to this crate. What follows from the definitions
-//! alone is in [`laws`].
+//! that phase alone has. A responder's begins by [`admit`], which answers an offer of IKE_SA_INIT. [`find`]
+//! tells which of a list a message is for, and [`receive`] what is to be made of it: the payloads of a
+//! request or of a response, the reply that was sent before, or a [`MessageFault`]. What the payloads of
+//! other messages say and do is nothing to this crate. What follows from the definitions alone is in
+//! [`laws`].
 //!
 //! ```text
 //! let message = decode_message(alloc, &datagram)?;
@@ -28,6 +29,7 @@
 //! SA.
 #![tactic(auto)]
 
+mod admitting;
 mod asked_child;
 mod fault;
 mod finding;
@@ -38,6 +40,7 @@ mod phase;
 mod purpose;
 mod receiving;
 
+pub use admitting::{Admitted, admit};
 pub use asked_child::AskedChild;
 pub use fault::{MessageFault, OrderFault};
 pub use finding::find;

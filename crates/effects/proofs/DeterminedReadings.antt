@@ -31,12 +31,13 @@ use Rattle.association.specs.declared.phase.Phase.{Phase}
 use Rattle.association.specs.declared.phase.Phase.TheVariants as phase
 use Rattle.association.specs.declared.phase.Request.{Request}
 use Rattle.association.specs.declared.purpose.Purpose.TheVariants.{Begin, Identify}
-use Rattle.initial.specs.Beginning.{begun, half_open, Admits, Begins}
+use Rattle.association.specs.Admitting.{half_open, Admits}
+use Rattle.initial.specs.Beginning.{begun, Begins}
 use Rattle.setup.specs.Configs.{Setup}
 use Rattle.association.specs.Issuing.{new_request, IssuesNext}
 use Rattle.effects.specs.Lengths.{AreWholeKeys, TellsLengths}
 use Rattle.initial.specs.Reading.{identity_message, waiting_of, Asker, BringsCookie, Continues, ReadsResponse, TellsIdentity}
-use Rattle.initial.specs.declared.beginning.Admitted.{Admitted}
+use Rattle.association.specs.declared.admitting.Admitted.{Admitted}
 use Rattle.initial.specs.declared.beginning.Beginning.{Beginning}
 use Rattle.initial.specs.declared.reading.Continued.{Continued}
 use Rattle.initial.specs.declared.reading.Continued.TheVariants as continued

@@ -22,11 +22,12 @@ use Rattle.association.specs.declared.phase.Request.{Request}
 use Rattle.association.specs.declared.purpose.Purpose.{Purpose}
 use Rattle.association.specs.declared.purpose.Purpose.TheVariants.{Begin, Identify}
 use Rattle.initial.specs.Answering.{outcome_of}
-use Rattle.initial.specs.Beginning.{begun, Admits, Begins}
+use Rattle.association.specs.Admitting.{Admits}
+use Rattle.initial.specs.Beginning.{begun, Begins}
 use Rattle.initial.specs.Concluding.{ConcludesBy}
 use Rattle.association.specs.Issuing.{with_incoming, with_outgoing, new_request, IssuesNext}
 use Rattle.setup.specs.Configs.{Setup}
-use Rattle.initial.specs.declared.beginning.Admitted.{Admitted}
+use Rattle.association.specs.declared.admitting.Admitted.{Admitted}
 use Rattle.initial.specs.declared.beginning.Beginning.{Beginning}
 use Rattle.initial.specs.declared.concluding.Outcome.{Outcome}
 use Rattle.initial.specs.declared.concluding.Outcome.TheVariants as outcome

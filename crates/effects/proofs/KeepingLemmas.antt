@@ -25,7 +25,8 @@ use Rattle.association.specs.declared.phase.Phase.TheVariants as phase
 use Rattle.association.specs.declared.phase.Request.{Request}
 use Rattle.association.specs.declared.purpose.Purpose.TheVariants.{Begin, Identify}
 use Rattle.initial.specs.Answering.{outcome_of}
-use Rattle.initial.specs.Beginning.{begun, half_open, Admits, Begins}
+use Rattle.association.specs.Admitting.{half_open, Admits}
+use Rattle.initial.specs.Beginning.{begun, Begins}
 use Rattle.effects.specs.Children.{IsAsking}
 use Rattle.initial.specs.Concluding.{established, widened, ConcludesBy}
 use Rattle.setup.specs.Configs.{Setup}
@@ -34,7 +35,7 @@ use Rattle.informational.specs.Orders.{ClosesIf}
 use Rattle.effects.specs.Keeping.{kept_reply, octets_of_effect, HasKeys, IsShort, KeepsShort, KeyedBy}
 use Rattle.effects.specs.Taking.{Meaning, TakesMessage}
 use Rattle.association.specs.declared.outcome.Answered.{Answered}
-use Rattle.initial.specs.declared.beginning.Admitted.{Admitted}
+use Rattle.association.specs.declared.admitting.Admitted.{Admitted}
 use Rattle.initial.specs.declared.beginning.Beginning.{Beginning}
 use Rattle.initial.specs.declared.concluding.Outcome.{Outcome}
 use Rattle.initial.specs.declared.concluding.Outcome.TheVariants as outcome

@@ -37,8 +37,9 @@ use Rattle.suite.specs.declared.sealer.Cipher.{Cipher}
 use Rattle.sa_init.specs.Judging.{OfferView}
 use Rattle.auth.specs.Windows.{IsWindow, WINDOW_LIMIT}
 use Rattle.initial.specs.Answering.{outcome_of, IsHalfOpen}
-use Rattle.initial.specs.Beginning.{begun, Admits, Begins}
-use Rattle.initial.specs.declared.beginning.Admitted.{Admitted}
+use Rattle.association.specs.Admitting.{Admits}
+use Rattle.initial.specs.Beginning.{begun, Begins}
+use Rattle.association.specs.declared.admitting.Admitted.{Admitted}
 use Rattle.initial.specs.declared.beginning.Beginning.{Beginning}
 use Rattle.moments.specs.Due.{after_sending, has_failed, is_due, is_over, is_unanswered, SendsAgain}
 use Rattle.moments.specs.Held.{IsClosedAt}

@@ -32,7 +32,7 @@ use Rattle.children.specs.Responding.{answered_proposals}
 use Rattle.children.specs.declared.responding.Made.{Made}
 use Rattle.children.specs.declared.responding.Response.TheVariants as response
 use Rattle.initial.specs.Answering.{reply_payloads, AnswersAuth, Prover}
-use Rattle.initial.specs.Beginning.{Admits}
+use Rattle.association.specs.Admitting.{Admits}
 use Rattle.setup.specs.Configs.{Setup}
 use Rattle.initial.specs.Deciding.{own_proving, IsDecision}
 use Rattle.exchange.specs.Chains.{IsRead}
@@ -51,7 +51,7 @@ use Rattle.effects.specs.Offers.{AnswersInitialSa, AnswersMessageSa, AnswersOneO
 use Rattle.effects.specs.Taking.{prover_of, Meaning, TakesMessage}
 use Rattle.effects.specs.declared.taking.Effect.TheVariants as effect
 use Rattle.association.specs.declared.outcome.Answered.{Answered}
-use Rattle.initial.specs.declared.beginning.Admitted as admitting
+use Rattle.association.specs.declared.admitting.Admitted as admitting
 use Rattle.initial.specs.declared.deciding.Decision.{Decision}
 use Rattle.initial.specs.declared.deciding.Decision.TheVariants as decision
 use Rattle.effects.proofs.ExchangeLemmas.{auth_exchange, further_exchange}

@@ -17,7 +17,8 @@ use Rattle.association.specs.Purposes.{spi_asked, AwaitsChild, AwaitsSpi}
 use Rattle.association.specs.declared.phase.Association.{Association}
 use Rattle.association.specs.declared.phase.Request.{Request}
 use Rattle.association.specs.declared.purpose.Purpose.TheVariants.{Begin}
-use Rattle.initial.specs.Beginning.{begun, half_open, Begins}
+use Rattle.association.specs.Admitting.{half_open}
+use Rattle.initial.specs.Beginning.{begun, Begins}
 use Rattle.setup.specs.Configs.{Setup}
 use Rattle.association.specs.Issuing.{new_request, IssuesNext}
 use Rattle.initial.specs.declared.beginning.Beginning.{Beginning}

@@ -42,7 +42,8 @@ use Rattle.association.specs.declared.purpose.Purpose.TheVariants.{Begin, Identi
 use Rattle.auth.specs.Proofs.{Accepts}
 use Rattle.auth.specs.Windows.{peer_window, IsWindow, WINDOW_LIMIT}
 use Rattle.initial.specs.Answering.{outcome_of, AnswersAuth}
-use Rattle.initial.specs.Beginning.{begun, Admits, Begins}
+use Rattle.association.specs.Admitting.{Admits}
+use Rattle.initial.specs.Beginning.{begun, Begins}
 use Rattle.initial.specs.Concluding.{established, widened, ConcludesBy}
 use Rattle.association.specs.Issuing.{with_incoming, with_outgoing, new_request, IssuesNext}
 use Rattle.setup.specs.Configs.{Setup}
@@ -50,7 +51,7 @@ use Rattle.initial.specs.Deciding.{IsDecision}
 use Rattle.initial.specs.Ending.{IsAuthSent, IsVerdict}
 use Rattle.initial.specs.Reading.{IsInitSent}
 use Rattle.association.specs.declared.outcome.Answered.{Answered}
-use Rattle.initial.specs.declared.beginning.Admitted.{Admitted}
+use Rattle.association.specs.declared.admitting.Admitted.{Admitted}
 use Rattle.initial.specs.declared.beginning.Beginning.{Beginning}
 use Rattle.initial.specs.declared.concluding.Outcome.{Outcome}
 use Rattle.initial.specs.declared.concluding.Outcome.TheVariants as outcome

@@ -20,7 +20,7 @@ use Rattle.association.specs.declared.phase.InitSent.{InitSent}
 use Rattle.association.specs.declared.phase.Phase.{Phase}
 use Rattle.association.specs.declared.phase.Phase.TheVariants as phase
 use Rattle.initial.specs.Answering.{outcome_of}
-use Rattle.initial.specs.Beginning.{Admits}
+use Rattle.association.specs.Admitting.{Admits}
 use Rattle.initial.specs.Concluding.{ConcludesBy}
 use Rattle.setup.specs.Configs.{Setup}
 use Rattle.deletions.specs.Deciding.{is_closing_verdict, verdict_on}
@@ -33,7 +33,7 @@ use Rattle.create_child.specs.Counting.{is_closing_conclusion}
 use Rattle.effects.specs.Lengths.{AreWholeKeys, HoldsWholeKeys}
 use Rattle.initial.specs.Reading.{Asker, Continues}
 use Rattle.effects.specs.Taking.{asked_further, asker_of, Does, IsPassedOver, Meaning, TakesMessage}
-use Rattle.initial.specs.declared.beginning.Admitted.{Admitted}
+use Rattle.association.specs.declared.admitting.Admitted.{Admitted}
 use Rattle.initial.specs.declared.concluding.Outcome.{Outcome}
 use Rattle.initial.specs.declared.concluding.Outcome.TheVariants as outcome
 use Rattle.initial.specs.declared.reading.Continued.{Continued}

@@ -12,9 +12,10 @@ use Rattle.sa_init.specs.Judging.{OfferView}
 use Rattle.association.specs.AskedChildren.{AskedChildView}
 use Rattle.association.specs.Contents.{association_content}
 use Rattle.association.specs.declared.phase.Association.{Association}
-use Rattle.initial.specs.Beginning.{begun, Admits, Begins}
+use Rattle.association.specs.Admitting.{Admits}
+use Rattle.initial.specs.Beginning.{begun, Begins}
 use Rattle.setup.specs.Configs.{Setup}
-use Rattle.initial.specs.declared.beginning.Admitted.{Admitted}
+use Rattle.association.specs.declared.admitting.Admitted.{Admitted}
 use Rattle.initial.specs.declared.beginning.Beginning.{Beginning}
 use Rattle.informational.specs.Asking.{Asks}
 use Rattle.informational.specs.declared.ordering.Order.{Order}

@@ -25,11 +25,11 @@ use Rattle.association.specs.declared.phase.Phase.TheVariants.{Established}
 use Rattle.association.specs.declared.phase.Request.{Request}
 use Rattle.auth.specs.Proofs.{Accepts}
 use Rattle.initial.specs.Answering.{AnswersAuth, Prover}
-use Rattle.initial.specs.Beginning.{Admits}
+use Rattle.association.specs.Admitting.{Admits}
 use Rattle.setup.specs.Configs.{Setup}
 use Rattle.initial.specs.Ending.{EndsAuth}
 use Rattle.association.specs.declared.outcome.Answered.{Answered}
-use Rattle.initial.specs.declared.beginning.Admitted.{Admitted}
+use Rattle.association.specs.declared.admitting.Admitted.{Admitted}
 use Rattle.association.specs.declared.outcome.Ended.{Ended}
 use Rattle.create_child.specs.Answering.{AnswersFurther}
 use Rattle.create_child.specs.Asking.{AsksForFurther}

@@ -5,7 +5,7 @@ use Rattle.suite.specs.declared.key_record.KeyRecord.{KeyRecord}
 use Rattle.sadb.specs.Database.{Database, IsAsBefore, IsReserved, IsSoundTable, Reserves}
 use Rattle.association.specs.Closing.{HoldsReserved, HoldsSpi}
 use Rattle.association.specs.declared.phase.Association.{Association}
-use Rattle.initial.specs.Beginning.{half_open}
+use Rattle.association.specs.Admitting.{half_open}
 use Rattle.moments.specs.Due.{is_over}
 use Rattle.effects.specs.LawCases.{begun_by, EachBeginning, EachMessage, EachOrder, EachRequest, IsBegun, IsOrdered, IsSent, IsTaken}
 use Rattle.effects.specs.Requests.{IsSoundlyHeld}

@@ -11,7 +11,7 @@ use Rattle.suite.specs.declared.key_record.KeyRecord.{KeyRecord}
 use Rattle.suite.specs.declared.keys.Keys.{Keys}
 use Rattle.requests.specs.Incoming.{IsLeftBehind, PeerRequests}
 use Rattle.association.specs.declared.phase.Association.{Association}
-use Rattle.initial.specs.Beginning.{half_open}
+use Rattle.association.specs.Admitting.{half_open}
 use Rattle.initial.specs.Concluding.{established}
 use Rattle.association.specs.Issuing.{with_incoming}
 use Rattle.setup.specs.declared.config.Config.{Config}

@@ -18,7 +18,8 @@ use Rattle.sa_init.specs.declared.judging.Sender.{Sender}
 use Rattle.association.specs.Contents.{association_content}
 use Rattle.association.specs.AskedChildren.{AskedChildView}
 use Rattle.association.specs.declared.phase.Association.{Association}
-use Rattle.initial.specs.Beginning.{begun, Admits, Begins}
+use Rattle.association.specs.Admitting.{Admits}
+use Rattle.initial.specs.Beginning.{begun, Begins}
 use Rattle.setup.specs.Configs.{Setup}
 use Rattle.effects.specs.Lengths.{HoldsWholeKeys, TellsLengths}
 use Rattle.informational.specs.Asking.{Asks}
@@ -26,7 +27,7 @@ use Rattle.moments.specs.Ticking.{Ticks}
 use Rattle.moments.specs.declared.ticking.Ticked.{Ticked}
 use Rattle.suite.specs.declared.keys.Keys.{Keys}
 use Rattle.effects.specs.Taking.{Meaning, TakesMessage}
-use Rattle.initial.specs.declared.beginning.Admitted.{Admitted}
+use Rattle.association.specs.declared.admitting.Admitted.{Admitted}
 use Rattle.initial.specs.declared.beginning.Beginning.{Beginning}
 use Rattle.informational.specs.declared.ordering.Order.{Order}
 use Rattle.effects.specs.declared.taking.Effect.{Effect}

@@ -21,13 +21,14 @@ use Rattle.association.specs.AskedChildren.{AskedChildView}
 use Rattle.association.specs.declared.fault.MessageFault.{MessageFault}
 use Rattle.association.specs.declared.fault.MessageFault.TheVariants.{WrongPhase}
 use Rattle.association.specs.declared.phase.Association.{Association}
-use Rattle.initial.specs.Beginning.{begun, Admits}
+use Rattle.association.specs.Admitting.{Admits}
+use Rattle.initial.specs.Beginning.{begun}
 use Rattle.setup.specs.Configs.{Setup}
 use Rattle.effects.specs.Lengths.{TellsLengths}
 use Rattle.moments.specs.Ticking.{Ticks}
 use Rattle.moments.specs.declared.ticking.Ticked.{Ticked}
 use Rattle.effects.specs.Taking.{Meaning}
-use Rattle.initial.specs.declared.beginning.Admitted.{Admitted}
+use Rattle.association.specs.declared.admitting.Admitted.{Admitted}
 use Rattle.initial.specs.declared.beginning.Beginning.{Beginning}
 use Rattle.effects.specs.declared.taking.Effect.{Effect}
 use Rattle.informational.specs.declared.ordering.Order.{Order}

@@ -19,10 +19,10 @@ use Rattle.association.specs.Finding.{is_meant}
 use Rattle.association.specs.Phases.{keys_in}
 use Rattle.association.specs.Receiving.{Opening}
 use Rattle.association.specs.declared.phase.Association.{Association}
-use Rattle.initial.specs.Beginning.{Admits}
+use Rattle.association.specs.Admitting.{Admits}
 use Rattle.setup.specs.Configs.{IsConfig, Setup}
 use Rattle.association.specs.declared.outcome.Answered.{Answered}
-use Rattle.initial.specs.declared.beginning.Admitted.{Admitted}
+use Rattle.association.specs.declared.admitting.Admitted.{Admitted}
 use Rattle.association.specs.declared.outcome.Ended.{Ended}
 use Rattle.effects.specs.Sending.{SendsRequest}
 use Rattle.moments.specs.Due.{has_failed, held_of, is_over, SendsAgain}

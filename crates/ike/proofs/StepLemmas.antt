@@ -42,12 +42,13 @@ use Rattle.moments.specs.declared.ticking.Ticked.{Ticked}
 use Rattle.effects.specs.Taking.{Meaning, KeepsIdentity, TakesMessage}
 use Rattle.effects.specs.declared.taking.Effect.{Effect}
 use Rattle.association.specs.Finding.{place_meant}
-use Rattle.initial.specs.Beginning.{begun, half_open as half_open_association, Admits, Begins}
+use Rattle.association.specs.Admitting.{half_open as half_open_association, Admits}
+use Rattle.initial.specs.Beginning.{begun, Begins}
 use Rattle.effects.specs.Keeping.{IsShort, KeepsShort}
 use Rattle.effects.specs.Lengths.{HoldsWholeKeys}
 use Rattle.effects.specs.Requests.{IsSoundlyHeld}
 use Rattle.effects.specs.Sending.{SendsRequest}
-use Rattle.initial.specs.declared.beginning.Admitted.{Admitted}
+use Rattle.association.specs.declared.admitting.Admitted.{Admitted}
 use Rattle.initial.specs.declared.beginning.Beginning.{Beginning}
 use Rattle.informational.specs.declared.ordering.Order.{Order}
 use Rattle.informational.specs.declared.ordering.Order.TheVariants as asked

@@ -23,7 +23,8 @@ use Rattle.association.specs.declared.phase.HalfOpen.{HalfOpen}
 use Rattle.association.specs.declared.phase.InitSent.{InitSent}
 use Rattle.association.specs.declared.phase.Phase.{Phase}
 use Rattle.association.specs.declared.phase.Phase.TheVariants as phase
-use Rattle.initial.specs.Beginning.{begun, half_open, Admits, Begins}
+use Rattle.association.specs.Admitting.{half_open, Admits}
+use Rattle.initial.specs.Beginning.{begun, Begins}
 use Rattle.effects.specs.Children.{AsksForChild, IsAsking, MakesChild}
 use Rattle.setup.specs.Configs.{Setup}
 use Rattle.effects.specs.Keeping.{child_in, octets_of_effect, HasKeys, IsShort, KeepsShort, KeyedBy}
@@ -37,7 +38,7 @@ use Rattle.moments.specs.Holding.{LeavesFewer}
 use Rattle.moments.specs.Ticking.{Ticks}
 use Rattle.moments.specs.declared.resent.Resent.{Resent}
 use Rattle.moments.specs.declared.ticking.Ticked.{Ticked}
-use Rattle.initial.specs.declared.beginning.Admitted.{Admitted}
+use Rattle.association.specs.declared.admitting.Admitted.{Admitted}
 use Rattle.initial.specs.declared.beginning.Beginning.{Beginning}
 use Rattle.effects.specs.declared.taking.Effect.{Effect}
 use Rattle.effects.specs.declared.taking.Effect.TheVariants as effect

@@ -14,11 +14,12 @@ use Rattle.association.specs.Finding.{place_meant}
 use Rattle.association.specs.AskedChildren.{AskedChildView}
 use Rattle.association.specs.declared.fault.MessageFault.{MessageFault}
 use Rattle.association.specs.declared.phase.Association.{Association}
-use Rattle.initial.specs.Beginning.{begun, Admits}
+use Rattle.association.specs.Admitting.{Admits}
+use Rattle.initial.specs.Beginning.{begun}
 use Rattle.setup.specs.Configs.{Setup}
 use Rattle.effects.specs.Lengths.{HoldsWholeKeys}
 use Rattle.effects.specs.Taking.{Meaning, TakesMessage}
-use Rattle.initial.specs.declared.beginning.Admitted.{Admitted}
+use Rattle.association.specs.declared.admitting.Admitted.{Admitted}
 use Rattle.initial.specs.declared.beginning.Beginning.{Beginning}
 use Rattle.setup.specs.declared.config.Config.{Config}
 use Rattle.effects.specs.declared.taking.Effect.{Effect}

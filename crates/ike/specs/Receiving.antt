@@ -25,11 +25,11 @@ use Rattle.association.specs.declared.fault.MessageFault.TheVariants.{WrongPhase
 use Rattle.association.specs.declared.phase.Association.{Association}
 use Rattle.association.specs.declared.phase.Phase.{Phase}
 use Rattle.association.specs.declared.phase.Phase.TheVariants.{HalfOpen}
-use Rattle.initial.specs.Beginning.{Admits}
+use Rattle.association.specs.Admitting.{Admits}
 use Rattle.setup.specs.Configs.{Setup}
 use Rattle.effects.specs.Keeping.{kept_reply}
 use Rattle.effects.specs.Taking.{CanMakeChild, CanTakeOf, Meaning, TakesMessage}
-use Rattle.initial.specs.declared.beginning.Admitted.{Admitted}
+use Rattle.association.specs.declared.admitting.Admitted.{Admitted}
 use Rattle.effects.specs.declared.taking.Effect.{Effect}
 use Rattle.ike.specs.Machines.{half_open_count, is_bad_spi, Held, SERIAL_END}
 use Rattle.ike.specs.Outputs.{half_open_step, passed_over, plain_step, stepped_of}

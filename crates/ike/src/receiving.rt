@@ -15,12 +15,11 @@ ghost use Rattle.effects.specs.Taking.{meaning_of};
 use crate::datagram::Datagram;
 use crate::held::{Held, answered_place, half_open_count, is_bad_spi};
 use crate::{IkeFault, IkeOutput, Stepped, Trace};
-use association::{Association, MessageFault, Phase, find};
+use association::{Admitted, Association, MessageFault, Phase, admit, find};
 use base::Items;
 use children::MemoryFault;
 use effects::take_message;
 use exchange::Notice;
-use initial::{Admitted, admit};
 use sa_init::laws::accepted_offers_fit;
 use sa_init::{Cookies, Judgement, Offer, judge, refuse};
 use sadb::Table;
@@ -236,7 +235,9 @@ fn take_offer<C: Sealer + Agreement + Proof>(
     }
     match admit(
         alloc,
-        setup,
+        setup.caller,
+        setup.fresh,
+        setup.moment,
         serial,
         offer,
         datagram.header().spi_i,

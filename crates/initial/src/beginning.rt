@@ -1,16 +1,14 @@
-//! IKE SAs as they begin, at both ends.
-ghost use Rattle.std.specs.Prelude.{◌≡◌, None, IfOk, MatchOption};
-ghost use Rattle.sa_init.specs.Fitting.{FitsOffer};
-ghost use Rattle.sa_init.specs.Judging.{offer_view};
-ghost use Rattle.initial.specs.Beginning.{begun, half_open, Admits, Begins};
+//! An initiator's IKE SA as it begins.
+ghost use Rattle.std.specs.Prelude.{◌≡◌, IfOk};
+ghost use Rattle.initial.specs.Beginning.{begun, Begins};
 
 use association::{
-    AskedChild, Association, HalfOpen, InitSent, Phase, Purpose, Request, issued, new_request,
+    AskedChild, Association, InitSent, Phase, Purpose, Request, issued, new_request,
 };
 use base::Items;
 use exchange::Role;
 use requests::{Incoming, Outgoing};
-use sa_init::{Agreed, Offer, answer, request};
+use sa_init::request;
 use setup::Setup;
 use std::alloc::{AllocError, Global};
 use suite::{Agreement, Sealer};
@@ -97,57 +95,4 @@ impl Beginning {
         };
         (association, octets)
     }
-}
-
-/// A responder's IKE SA, and what it answers.
-#[derive(Drop)]
-pub struct Admitted {
-    pub association: Association,
-    /// The answer to IKE_SA_INIT.
-    pub octets: Items<u8>,
-}
-
-/// Answers an offer that was accepted ([`sa_init::judge`]), with the SPI, the secret and the nonce that are
-/// fresh: the IKE SA is half-open from then on. `request` is the very datagram that brought the offer, over
-/// which the initiator's AUTH is computed. That the fresh SPI is not zero and no SPI of this end in use is
-/// the caller's to see to. `None` (E32) exactly where the agreement refuses the initiator's public value. The
-/// only error is an allocation failure.
-pub fn admit<C: Sealer + Agreement>(
-    alloc: Global,
-    setup: &Setup<'_, C>,
-    serial: u32,
-    offer: &Offer<'_>,
-    spi_i: u64,
-    request: &[u8],
-) -> Result<Option<Admitted>, AllocError>
-    requires { FitsOffer (offer_view offer.now) }
-    ensures { IfOk result (λ admitted. MatchOption admitted
-        (C.shared_secret setup.now.fresh.now.secret offer.now.public.now ≡ None)
-        (Admits C.cipher C.group_number C.public_value C.shared_secret setup.now.fresh.now setup.now.moment
-        serial
-        (offer_view offer.now) spi_i request.now)) }
-{
-    let Some(agreed) = answer(alloc, setup.caller, offer, spi_i, setup.fresh)? else {
-        return Ok(None);
-    };
-    let Agreed { record, octets } = agreed;
-    let half_open = HalfOpen {
-        keys: record,
-        request: Items::from_slice(alloc, request)?,
-        reply: Items::from_slice(alloc, octets.as_slice())?,
-        made: setup.moment,
-    };
-    let association = Association {
-        serial,
-        role: Role::Responder,
-        spi_i,
-        spi_r: setup.fresh.spi,
-        incoming: Incoming::after_initial(alloc),
-        outgoing: Outgoing::new(alloc),
-        phase: Phase::HalfOpen(half_open),
-    };
-    Ok(Some(Admitted {
-        association,
-        octets,
-    }))
 }

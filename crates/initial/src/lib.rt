@@ -1,11 +1,11 @@
 //! The initial exchanges (RFC 7296, section 1.2): what the messages of IKE_SA_INIT and IKE_AUTH do to one IKE
 //! SA, to the table of SA pairs, and what is sent back.
 //!
-//! An initiator's IKE SA is [`begin`]'s, and a responder's [`admit`]'s. [`read_response`] makes of the
-//! response to IKE_SA_INIT the next request, and [`end_auth`] of the response to IKE_AUTH an IKE SA that is
-//! established, with its first Child SA, or closed; so does [`answer_auth`] of the request, at a responder.
-//! Which IKE SA a message is for, whether its Message ID is fresh and what it opens to, [`association`]
-//! tells; each call here makes all that it needs before it changes anything.
+//! An initiator's IKE SA is [`begin`]'s, and a responder's [`association::admit`]'s. [`read_response`] makes
+//! of the response to IKE_SA_INIT the next request, and [`end_auth`] of the response to IKE_AUTH an IKE SA
+//! that is established, with its first Child SA, or closed; so does [`answer_auth`] of the request, at a
+//! responder. Which IKE SA a message is for, whether its Message ID is fresh and what it opens to,
+//! [`association`] tells; each call here makes all that it needs before it changes anything.
 //!
 //! ```text
 //! let beginning = begin(alloc, &step)?;
@@ -37,6 +37,6 @@ mod ending;
 mod reading;
 
 pub use answering::answer_auth;
-pub use beginning::{Admitted, Beginning, admit, begin};
+pub use beginning::{Beginning, begin};
 pub use ending::end_auth;
 pub use reading::{Continued, read_response};

@@ -18,7 +18,7 @@ use Rattle.association.specs.declared.phase.Request.{Request}
 use Rattle.association.specs.declared.purpose.Purpose.TheVariants.{Identify}
 use Rattle.auth.specs.Proofs.{octets_to_prove}
 use Rattle.setup.specs.declared.config.Config.{Config}
-use Rattle.initial.specs.Beginning.{half_open}
+use Rattle.association.specs.Admitting.{half_open}
 use Rattle.effects.specs.Taking.{Meaning}
 use Rattle.ike.specs.Moves.{HasSeal}
 use Rattle.gateway.specs.Histories.{Passage}

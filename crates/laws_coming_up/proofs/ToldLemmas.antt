@@ -35,7 +35,7 @@ use Rattle.association.specs.declared.purpose.Purpose.{Purpose}
 use Rattle.association.specs.declared.purpose.Purpose.TheVariants.{Begin, Identify}
 use Rattle.setup.specs.Configs.{Setup}
 use Rattle.setup.specs.declared.config.Config.{Config}
-use Rattle.initial.specs.Beginning.{half_open}
+use Rattle.association.specs.Admitting.{half_open}
 use Rattle.initial.specs.Reading.{Continues, TellsIdentity}
 use Rattle.initial.specs.declared.reading.Continued.{Continued}
 use Rattle.initial.specs.declared.reading.Continued.TheVariants as continued

@@ -23,7 +23,7 @@ use Rattle.sa_init.specs.Messages.{ike_wanted}
 use Rattle.sa_init.specs.Parts.{PartsView}
 use Rattle.sa_init.specs.declared.judging.Sender.{Sender}
 use Rattle.association.specs.declared.phase.Association.{Association}
-use Rattle.initial.specs.Beginning.{half_open}
+use Rattle.association.specs.Admitting.{half_open}
 use Rattle.setup.specs.Configs.{Setup}
 use Rattle.effects.specs.Taking.{Meaning}
 use Rattle.ike.specs.Faults.{is_want_of_memory}

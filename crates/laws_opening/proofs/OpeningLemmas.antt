@@ -9,7 +9,7 @@ use Rattle.suite.specs.declared.proof.Proof as Proof
 use Rattle.suite.specs.declared.sealer.Sealer as Sealer
 use Rattle.sadb.specs.Database.{empty_table}
 use Rattle.sa_init.specs.Cookies.{IsRightCookie}
-use Rattle.initial.specs.Beginning.{half_open}
+use Rattle.association.specs.Admitting.{half_open}
 use Rattle.association.specs.AskedChildren.{AskedChildView}
 use Rattle.effects.specs.Taking.{meaning_of, Meaning}
 use Rattle.ike.specs.Starting.{protecting_entry}

@@ -22,7 +22,7 @@ use Rattle.association.specs.declared.phase.InitSent.{InitSent}
 use Rattle.association.specs.declared.phase.Phase.TheVariants as phase
 use Rattle.association.specs.declared.phase.Request.{Request as Asked}
 use Rattle.association.specs.declared.purpose.Purpose.TheVariants.{Begin, Identify}
-use Rattle.initial.specs.Beginning.{half_open}
+use Rattle.association.specs.Admitting.{half_open}
 use Rattle.effects.specs.Taking.{Meaning}
 use Rattle.ike.specs.Machines.{half_open_count, is_bad_spi, Held, Machine, SERIAL_END}
 use Rattle.ike.specs.Receiving.{is_answered, with_next}

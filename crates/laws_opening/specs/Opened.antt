@@ -24,7 +24,7 @@ use Rattle.auth.specs.Proofs.{proving_of}
 use Rattle.auth.specs.Requests.{auth_request}
 use Rattle.children.specs.Asking.{child_request}
 use Rattle.setup.specs.declared.config.Config.{Config}
-use Rattle.initial.specs.Beginning.{half_open}
+use Rattle.association.specs.Admitting.{half_open}
 use Rattle.effects.specs.Taking.{Meaning}
 use Rattle.ike.specs.Machines.{new_machine}
 use Rattle.ike.specs.Starting.{child_by}

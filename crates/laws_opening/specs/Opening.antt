@@ -9,7 +9,7 @@ use Rattle.suite.specs.declared.fresh.Fresh.{Fresh}
 use Rattle.exchange.specs.Headers.{keys_of}
 use Rattle.exchange.specs.Sealed.{IsSealed}
 use Rattle.exchange.specs.declared.headers.Role.TheVariants.{Initiator}
-use Rattle.initial.specs.Beginning.{half_open}
+use Rattle.association.specs.Admitting.{half_open}
 use Rattle.effects.specs.Taking.{Meaning}
 use Rattle.ike.specs.Starting.{protecting_entry}
 use Rattle.gateway.specs.Histories.{IsPassage, Passage}

@@ -14,10 +14,10 @@ use Rattle.association.specs.Receiving as receiving
 use Rattle.association.specs.Receiving.{reception_by}
 use Rattle.association.specs.declared.phase.Association.{Association}
 use Rattle.association.specs.declared.phase.Request.{Request}
-use Rattle.initial.specs.Beginning.{Admits}
+use Rattle.association.specs.Admitting.{Admits}
 use Rattle.setup.specs.Configs.{Setup}
 use Rattle.initial.specs.Reading.{ReadsResponse, TellsIdentity}
-use Rattle.initial.specs.declared.beginning.Admitted.{Admitted}
+use Rattle.association.specs.declared.admitting.Admitted.{Admitted}
 use Rattle.initial.specs.declared.reading.Continued.TheVariants as continued
 use Rattle.moments.specs.Held.{IsInTime}
 use Rattle.effects.specs.Taking.{asker_of, TakesMessage}

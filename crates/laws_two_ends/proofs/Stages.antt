@@ -21,7 +21,7 @@ use Rattle.association.specs.declared.phase.Request.{Request}
 use Rattle.association.specs.declared.purpose.Purpose.TheVariants.{Identify, Probe}
 use Rattle.children.specs.Pairs.{inbound_of, outbound_of}
 use Rattle.children.specs.Terms.{Terms}
-use Rattle.initial.specs.Beginning.{half_open}
+use Rattle.association.specs.Admitting.{half_open}
 use Rattle.initial.specs.Concluding.{established, widened}
 use Rattle.association.specs.Issuing.{with_incoming, with_outgoing, new_request}
 use Rattle.deliveries.specs.Worked.{any_traffic}

@@ -14,10 +14,11 @@ use Rattle.association.specs.declared.phase.InitSent.{InitSent}
 use Rattle.association.specs.declared.phase.Phase.TheVariants as phase
 use Rattle.association.specs.declared.phase.Request.{Request}
 use Rattle.association.specs.declared.purpose.Purpose.TheVariants.{Begin, Identify}
-use Rattle.initial.specs.Beginning.{begun, half_open, Admits, Begins}
+use Rattle.association.specs.Admitting.{half_open, Admits}
+use Rattle.initial.specs.Beginning.{begun, Begins}
 use Rattle.association.specs.Issuing.{new_request}
 use Rattle.initial.specs.Reading.{waiting_of, ReadsResponse, TellsIdentity}
-use Rattle.initial.specs.declared.beginning.Admitted.{Admitted}
+use Rattle.association.specs.declared.admitting.Admitted.{Admitted}
 use Rattle.initial.specs.declared.beginning.Beginning.{Beginning}
 use Rattle.initial.specs.declared.reading.Continued.TheVariants as continued
 use Rattle.laws_two_ends.specs.Records.{ComesToKeysAsInitiator, ComesToKeysAsResponder}

@@ -28,10 +28,10 @@ use Rattle.association.specs.declared.phase.Association.{Association}
 use Rattle.association.specs.declared.phase.InitSent.{InitSent}
 use Rattle.association.specs.declared.phase.Phase.{Phase}
 use Rattle.association.specs.declared.phase.Phase.TheVariants as phase
-use Rattle.initial.specs.Beginning.{Admits}
+use Rattle.association.specs.Admitting.{Admits}
 use Rattle.setup.specs.Configs.{Setup}
 use Rattle.initial.specs.Reading.{Continues, ReadsResponse}
-use Rattle.initial.specs.declared.beginning.Admitted.{Admitted}
+use Rattle.association.specs.declared.admitting.Admitted.{Admitted}
 use Rattle.initial.specs.declared.reading.Continued.{Continued}
 use Rattle.initial.specs.declared.reading.Continued.TheVariants as continued
 use Rattle.effects.specs.Taking.{asker_of, Does, DoesInitial, DoesRequest, DoesResponse, Meaning, TakesMessage}

@@ -11,10 +11,10 @@ use Rattle.sa_init.specs.Judging.{OfferView}
 use Rattle.sa_init.specs.Parts.{HasParts, PartsView}
 use Rattle.association.specs.Phases.{keys_in}
 use Rattle.association.specs.declared.phase.Association.{Association}
-use Rattle.initial.specs.Beginning.{Admits}
+use Rattle.association.specs.Admitting.{Admits}
 use Rattle.setup.specs.Configs.{Setup}
 use Rattle.initial.specs.Reading.{Asker, ReadsResponse}
-use Rattle.initial.specs.declared.beginning.Admitted.{Admitted}
+use Rattle.association.specs.declared.admitting.Admitted.{Admitted}
 use Rattle.initial.specs.declared.reading.Continued.TheVariants as continued
 
 -- what an IKE SA says of itself in IKE_SA_INIT: its SPI, the value of its key exchange and its nonce

@@ -2,7 +2,7 @@ use Rattle.std.proofs.Common.{◌≡◌, MatchOption, None, ap, inr, rules, subs
 use Rattle.base.specs.Octets.{Octets}
 use Rattle.wire.specs.declared.message.Header.{Header}
 use Rattle.sa_init.specs.Judging.{offer_view}
-use Rattle.initial.specs.Beginning.{Admits}
+use Rattle.association.specs.Admitting.{Admits}
 use Rattle.ike.specs.Outputs.{half_open_step}
 use Rattle.ike.proofs.receiving.take_offer.Goals as goal
 
