@@ -8,17 +8,18 @@ ghost use Rattle.association.specs.Purposes.{SeeksAt};
 ghost use Rattle.association.specs.declared.purpose.Sought.TheVariants as sought;
 ghost use Rattle.create_child.specs.Counting.{CountsWhereAwaited, EndsFurther, HasItsSpi};
 
+use crate::concluding::{Concluded, conclude_response};
 use association::laws::{children_are_asked_for, spis_stay_held};
 use association::{Association, Ended, Fate, Phase, unless_made};
 use children::{Asked, MemoryFault};
 use exchange::Plain;
-use further::{Concluded, Conclusion, conclude_response};
+use further::Conclusion;
 use sadb::{Spi, Table};
 use setup::Setup;
 use std::alloc::Global;
 
 /// Matches the response to a request for an additional Child SA (RFC 7296, section 1.3.1), by the payloads
-/// that it opened to and what [`further::conclude_response`] makes of them. The IKE SA is closed, the child
+/// that it opened to and what [`conclude_response`] makes of them. The IKE SA is closed, the child
 /// is made under the SPI that was reserved for it, or no child is made and that SPI is given up. Where no
 /// child is made, the first error notification of the answer is told ([`Ended::declined`]). It is `None`, and
 /// nothing is changed, where the IKE SA is not established.

@@ -3,10 +3,11 @@
 //! refused, and the response to one of this end is matched.
 //!
 //! Which IKE SA a message is for, whether its Message ID is fresh and what it opens to, [`association`]
-//! tells; what the payloads say, [`further`]. Each call here makes all that it needs before it changes
-//! anything, and tells where the IKE SA is not established. The SPI of a child that was asked for is kept
-//! with the request ([`association::Purpose::CreateChild`]), and goes back to the table with the answer, or
-//! when the IKE SA ends.
+//! tells; what a request says and what becomes of it, [`further`]; what a response does,
+//! [`conclude_response`]. Each call here makes all that it needs before it changes anything, and tells where
+//! the IKE SA is not established. The SPI of a child that was asked for is kept with the request
+//! ([`association::Purpose::CreateChild`]), and goes back to the table with the answer, or when the IKE SA
+//! ends.
 //!
 //! ```text
 //! send(ask(alloc, &step, &mut association, &mut table, &local, &remote)?.octets);
@@ -27,9 +28,11 @@
 
 mod answering;
 mod asking;
+mod concluding;
 mod counting;
 pub mod laws;
 
 pub use answering::answer;
 pub use asking::ask;
+pub use concluding::{Concluded, conclude_response};
 pub use counting::count;

@@ -14,8 +14,8 @@ use std::alloc::{AllocError, Global};
 use wire::Payload;
 
 /// The payloads of a request for an additional Child SA (RFC 7296, section 1.3.1): SA, Nonce, TSi, TSr, with
-/// what [`children::ask`] asks for, and this end's nonce of 32 octets, which
-/// [`conclude_response`](crate::conclude_response) is to be given again (section 2.17). They can be sealed.
+/// what [`children::ask`] asks for, and this end's nonce of 32 octets, which is wanted again when the answer
+/// comes (section 2.17). They can be sealed.
 ///
 /// The caller gives selectors that a message can carry. The only error is an allocation failure.
 pub fn ask(alloc: Global, asked: &Asked, nonce: &[u8; 32]) -> Result<Items<Payload>, AllocError>

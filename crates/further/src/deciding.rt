@@ -179,13 +179,7 @@ fn respond_to<C>(
 }
 
 // What an additional Child SA is made on, by the nonces of the exchange's initiator and of its responder.
-pub(crate) fn further_setting(
-    blocks: u32,
-    ike: u32,
-    keys: &KeyRecord,
-    ni: &[u8],
-    nr: &[u8],
-) -> Setting
+fn further_setting(blocks: u32, ike: u32, keys: &KeyRecord, ni: &[u8], nr: &[u8]) -> Setting
     ensures { result ≡ further_setting blocks ike keys.now ni.now nr.now }
 {
     Setting {

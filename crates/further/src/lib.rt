@@ -6,7 +6,7 @@
 //! An initiator sends the payloads of [`ask`], with an SPI that its table reserved and a fresh nonce. A
 //! responder tells by [`decide`] what becomes of the request, which changes the table's spare capacity alone,
 //! sends the payloads of [`answer_payloads`], and adds its SA pair by [`children::install`] once nothing can
-//! fail any more. The initiator takes the answer by [`conclude_response`]. The keys come from the IKE SA's
+//! fail any more. What the initiator makes of the answer is a [`Conclusion`]. The keys come from the IKE SA's
 //! and the nonces of this exchange (section 2.17). No key exchange takes place in it, and no IKE SA is made
 //! in place of another: a request for either is refused. A Notify payload in a request is passed over,
 //! REKEY_SA among them, so no child is replaced. What a request asks for, or why it is refused before policy
@@ -20,12 +20,6 @@
 //! let closes = decision.is_closing();
 //! let (answer, pair) = decision.into_parts();
 //! let payloads = answer_payloads(alloc, answer, &step.fresh.nonce)?;
-//!
-//! match conclude_response(alloc, &plain, &asked, &nonce, ike, &keys, blocks)?.conclusion {
-//!     Conclusion::Made(pair) => { table.install(spi, pair); }
-//!     Conclusion::NoChild => table.release(spi),
-//!     Conclusion::Closes => { table.release(spi); .. }
-//! }
 //! ```
 //!
 //! # How it is proved
@@ -49,6 +43,6 @@ mod payloads;
 
 pub use answering::answer_payloads;
 pub use asking::ask;
-pub use concluding::{Concluded, Conclusion, conclude_response};
+pub use concluding::Conclusion;
 pub use deciding::{Decision, decide};
 pub use judging::{FurtherRequest, Judgement, judge};

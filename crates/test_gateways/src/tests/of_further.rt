@@ -5,11 +5,9 @@ ghost use Rattle.further.specs.Deciding.{FitsFurtherDecision};
 use auth::Identity;
 use base::{Items, Range, Selector};
 use children::{Asked, MemoryFault};
+use create_child::{Concluded, conclude_response};
 use exchange::{ChildAnswer, Notice, Plain, Role, sent_header};
-use further::{
-    Concluded, Conclusion, Decision, Judgement, answer_payloads, ask, conclude_response, decide,
-    judge,
-};
+use further::{Conclusion, Decision, Judgement, answer_payloads, ask, decide, judge};
 use policy::{Action, Entry, Policy};
 use sadb::{Pair, Table};
 use setup::{Config, EndConfig, Setup};
