@@ -1,9 +1,9 @@
 -- Packets that are laid first, and get their ICVs afterwards.
 use Rattle.std.proofs.Common.{◌≡◌, ℕ, ◌+◌, ◌-◌, ◌<◌, ◌≤◌, List, ◌++◌, length, take, drop, refl, sym, ap, ◌∙◌, subst, arith, inl, inr, length-append, length-drop}
-use Rattle.std.specs.Prelude.{Bool, true, false, nat_le, replicate, if◌then◌else◌}
+use Rattle.std.specs.Prelude.{Bool, replicate, if◌then◌else◌}
 use Rattle.std.proofs.lemmas.Bool.{le-leb}
 use Rattle.std.proofs.lemmas.Bool.Decides.{leb_tells}
-use Rattle.std.proofs.lemmas.List.{append_assoc, append-nil, take_at, drop_at, length-replicate, take-append-drop, take_all, drop_all, take_rest, length-take-le}
+use Rattle.std.proofs.lemmas.List.{append-nil, take_at, drop_at, length-replicate, take-append-drop, take_all, drop_all, take_rest, length-take-le}
 use Rattle.std.proofs.lemmas.Slice.{take-put_mid, drop-put_mid}
 use borrow.Rule.Slice.PartMut.{put_mid}
 use Rattle.esp.specs.declared.sa.Sa.{Sa}
@@ -11,8 +11,8 @@ use Rattle.esp.specs.Ahead.{value_of}
 use Rattle.esp.specs.Packet.{check_value}
 use Rattle.esp.specs.Views.{Sending}
 use Rattle.esp.specs.Sealing.{Seals}
-use Rattle.esp.specs.Laying.{pad_of, covered, covered_size, Lays, finished, finished_behind}
-use Rattle.esp.proofs.LayingLemmas.{length-covered, pad_small, pad_fills, sending}
+use Rattle.esp.specs.Laying.{pad_of, covered, Lays, finished, finished_behind}
+use Rattle.esp.proofs.LayingLemmas.{pad_small, pad_fills}
 use Rattle.esp.proofs.SealingLemmas.{sealed}
 
 -- what is written over all that stands behind a place

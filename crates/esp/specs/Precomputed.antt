@@ -19,7 +19,7 @@ asked_value question =
     icv_sha256 question.association.now.key (question.covered.now ++ (if question.association.now.extended then question.half else []))
 
 abbrev pub value_of_asked : Asked → List ℕ
-value_of_asked one = asked_value one.question
+value_of_asked one = asked_value one.question.now
 
 -- the value is the packet's ICV under the key and the sequence number that stand beside it
 pub record IsPrecomputed (b : List ℕ) (found : Precomputed) : Type 0 where
@@ -36,7 +36,7 @@ pub record ArePrecomputed (packets : ℕ → List ℕ) (values : List (Option Pr
 -- it is the question at its place
 pub record IsAskedIn (questions : List (Option Question)) (one : Asked) : Type 0 where
   pub within : one.place < length questions
-  pub there : get_or questions one.place None ≡ Some one.question
+  pub there : get_or questions one.place None ≡ Some one.question.now
 
 -- this answers the question at a place
 pub record IsAnswer (questions : List (Option Question)) (i : ℕ) (found : Precomputed) : Type 0 where

@@ -42,24 +42,25 @@ pub fn ahead_at(ahead: &[Option<Ahead>], place: usize) -> Option<Ahead>
 }
 
 /// The ICVs of the packets that are asked for, each at its packet's place. `least` is from how many packets
-/// on it gains time to compute them side by side.
-pub fn values_ahead(
+/// on it gains time to compute them side by side, and the arrays have room for `N`.
+pub fn values_ahead<const N: usize>(
     association: &Sa,
     packets: &[&[u8]],
     asked: &[Asked],
     least: usize,
-) -> [Option<Ahead>; GROUP]
-    requires few { length asked.now ≤ GROUP }
-    requires room { length packets.now ≤ GROUP }
+) -> [Option<Ahead>; N]
+    requires group { N ≤ GROUP }
+    requires few { length asked.now ≤ N }
+    requires room { length packets.now ≤ N }
     requires asked { All (IsAsked (octets_of packets.now)) asked.now }
     ensures right { AreAhead association.now (octets_of packets.now) result }
     ensures all { All (HasAhead result) asked.now }
 {
-    let mut values = [[0; CHECK]; GROUP];
+    let mut values = [[0; CHECK]; N];
     let count = asked.len();
     let tasks = tasks_for(association, packets, asked);
     icv_all(&tasks[..count], &mut values[..count], messages_least(least));
-    placed(asked, &values[..count])
+    placed::<N>(asked, &values[..count])
 }
 
 // What is asked of each packet: its covered octets, and the half of its sequence number that is not sent.
@@ -85,14 +86,14 @@ fn covered_of(packet: &[u8]) -> &[u8]
 }
 
 // The values, each at the place of the packet that it was asked for.
-fn placed(asked: &[Asked], values: &[[u8; CHECK]]) -> [Option<Ahead>; GROUP]
+fn placed<const N: usize>(asked: &[Asked], values: &[[u8; CHECK]]) -> [Option<Ahead>; N]
     requires same { length values.now ≡ length asked.now }
-    requires places { All (λ one. one.place < GROUP) asked.now }
+    requires places { All (λ one. one.place < N) asked.now }
     ensures right { (a : Sa) (packets : List (List ℕ))
         → values.now ≡ map (value_asked a packets) asked.now → AreAhead a packets result }
     ensures all { All (HasAhead result) asked.now }
 {
-    let mut ahead = [None; GROUP];
+    let mut ahead = [None; N];
     for (turn, one) in asked.iter().enumerate() {
         ahead[one.place] = Some(Ahead {
             number: one.number,

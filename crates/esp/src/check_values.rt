@@ -12,6 +12,10 @@ use lanes::{Task, icv_all};
 /// How many ICVs are computed at once.
 pub const GROUP: usize = 64;
 
+/// How many packets a short list has, so many as there are lanes. Most arrays of one that is opened are as
+/// short: to fill longer ones would cost some 2 % of its time.
+pub const FEW: usize = 8;
+
 /// Writes the ICVs of packets that lie one after the other and carry these payloads, with the sequence
 /// numbers after `last`. `least` is from how many packets on that gains time.
 pub fn write_check_values(

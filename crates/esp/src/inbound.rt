@@ -11,7 +11,7 @@ ghost use Rattle.esp.specs.Opening.{IsOpeningRefusal, IsFreshNumber, HandsUp, Re
 ghost use Rattle.esp.specs.Delivery.{AnswersFirst, IsStop, JudgesAtMostOnce, JudgesExactlyAtFirst, answers_since, octets_of};
 
 use crate::ahead::{Ahead, Asked, ahead_at, values_ahead};
-use crate::check_values::GROUP;
+use crate::check_values::{FEW, GROUP};
 use crate::load::{PACKETS_LEAST, gain_by_lanes};
 use crate::packet::{
     CHECK, HEAD, contents, high_half, is_check_value, is_judged_length, low_half_of,
@@ -313,17 +313,40 @@ impl<W: Window> Inbound<W> {
         if !gain_by_lanes(packets, self.lanes) {
             return self.answer_with(packets, &[], out);
         }
-        let (asked, count) = self.fresh_packets(packets);
+        if packets.len() <= FEW {
+            self.answer_by_lanes::<FEW>(packets, out)
+        } else {
+            self.answer_by_lanes::<GROUP>(packets, out)
+        }
+    }
+
+    // The same where that gains time, with arrays for `N` packets.
+    fn answer_by_lanes<'a, const N: usize>(
+        &mut self,
+        packets: &[&'a [u8]],
+        out: &mut Vec<Result<Opened<'a>, EspFault>>,
+    ) -> usize
+        requires mine { All (BeginsWithItsSpi self.old.association) (octets_of packets.now) }
+        requires group { N ≤ GROUP }
+        requires few { length packets.now ≤ N }
+        ensures first { RunsFirst W.may_want result self.old (octets_of packets.now)
+            out.old.items self.new out.new.items }
+        ensures room { vec_len out.old + length packets.now ≤ vec_capacity out.old
+            → result ≡ length packets.now }
+        ensures capacity { vec_capacity out.old ≤ vec_capacity out.new }
+        ensures size { vec_len out.new ≡ vec_len out.old + result }
+    {
+        let (asked, count) = self.fresh_packets::<N>(packets);
         if count < self.lanes {
             return self.answer_with(packets, &[], out);
         }
-        let ahead = values_ahead(&self.association, packets, &asked[..count], self.lanes);
+        let ahead = values_ahead::<N>(&self.association, packets, &asked[..count], self.lanes);
         self.answer_with(packets, &ahead, out)
     }
 
     // The packets that have a sequence number that was not taken, as the receiver is now; and how many.
-    fn fresh_packets(&self, packets: &[&[u8]]) -> ([Asked; GROUP], usize)
-        requires { length packets.now ≤ GROUP }
+    fn fresh_packets<const N: usize>(&self, packets: &[&[u8]]) -> ([Asked; N], usize)
+        requires { length packets.now ≤ N }
         ensures asked { All (IsAsked (octets_of packets.now)) (take result.1 result.0) }
         ensures fresh { All (HasFreshNumber self.now (octets_of packets.now)) (take result.1 result.0) }
         ensures few { result.1 ≤ length packets.now }
@@ -332,7 +355,7 @@ impl<W: Window> Inbound<W> {
             place: 0,
             number: 0,
             half: [0; 4],
-        }; GROUP];
+        }; N];
         let mut count = 0;
         for (place, packet) in packets.iter().enumerate() {
             if let Ok(number) = self.fresh_number(packet) {

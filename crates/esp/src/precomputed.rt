@@ -1,5 +1,6 @@
 //! ICVs of received packets, of one SA or of several, computed side by side before the packets are opened.
-ghost use Rattle.std.specs.Prelude.{◌≡◌, ℕ, ◌<◌, ◌≤◌, All, IfSome, List, Option, length, map, take};
+ghost use Rattle.std.specs.Prelude.{◌≡◌, ℕ, ◌<◌, ◌≤◌, All, IfSome, IsTrue, List, Option, length, map, take};
+ghost use Rattle.std.specs.Int.{from_le_bytes, w128};
 ghost use Rattle.lanes.specs.Task.{icv_of};
 ghost use Rattle.esp.specs.declared.precomputed.Question.{Question};
 ghost use Rattle.esp.specs.Ahead.{IsAhead};
@@ -38,11 +39,11 @@ pub struct Precomputed {
 struct Asked<'a> {
     // Its place in the group.
     place: usize,
-    question: Question<'a>,
+    question: &'a Question<'a>,
 }
 
 impl AsSlice<u8> for Asked<'_> {
-    ghost items = { λ asked. asked.question.covered.now };
+    ghost items = { λ asked. asked.question.now.covered.now };
 
     fn as_slice(&self) -> &[u8] {
         self.question.covered
@@ -97,13 +98,31 @@ pub fn own_of(association: &Sa, ahead: Option<Precomputed>) -> Option<Ahead>
         return None;
     }
     // Both keys are this end's own, so nobody learns anything by the time that it takes to compare them.
-    if found.key.as_slice() != association.key.octets().as_slice() {
+    if !is_same_key(&found.key, &association.key.octets()) {
         return None;
     }
     Some(Ahead {
         number: found.number,
         value: found.value,
     })
+}
+
+// Whether two keys are the same. They are compared as two numbers each, which takes less time than octet by
+// octet.
+fn is_same_key(one: &[u8; 32], other: &[u8; 32]) -> bool
+    ensures { IsTrue result → one.now ≡ other.now }
+{
+    half_of(&one[..16]) == half_of(&other[..16]) && half_of(&one[16..]) == half_of(&other[16..])
+}
+
+// Half of a key as a number.
+fn half_of(octets: &[u8]) -> u128
+    requires { length octets.now ≡ 16 }
+    ensures { result ≡ from_le_bytes w128 octets.now }
+{
+    let mut half = [0; 16];
+    half.copy_from_slice(octets);
+    u128::from_le_bytes(half)
 }
 
 /// The ICVs that are asked for, each at the place of its question, where it gains time to compute them side
@@ -124,10 +143,10 @@ pub fn precompute(questions: &[Option<Question<'_>>], least: usize) -> [Option<P
 }
 
 // The first question, if there is one.
-fn first_of<'a>(questions: &[Option<Question<'a>>]) -> Option<Question<'a>> {
+fn first_of<'a>(questions: &'a [Option<Question<'a>>]) -> Option<&'a Question<'a>> {
     for question in questions {
         if let Some(question) = question {
-            return Some(*question);
+            return Some(question);
         }
     }
     None
@@ -136,8 +155,8 @@ fn first_of<'a>(questions: &[Option<Question<'a>>]) -> Option<Question<'a>> {
 // The questions, one behind the other, each with its place; and how many. Behind them stands the first one,
 // which is of no use there.
 fn asked_of<'a>(
-    questions: &[Option<Question<'a>>],
-    first: Question<'a>,
+    questions: &'a [Option<Question<'a>>],
+    first: &'a Question<'a>,
 ) -> ([Asked<'a>; GROUP], usize)
     requires few { length questions.now ≤ GROUP }
     ensures asked { All (IsAskedIn questions.now) (take result.1 result.0) }
@@ -150,10 +169,7 @@ fn asked_of<'a>(
     let mut count = 0;
     for (place, question) in questions.iter().enumerate() {
         if let Some(question) = question {
-            asked[count] = Asked {
-                place,
-                question: *question,
-            };
+            asked[count] = Asked { place, question };
             count += 1;
         }
     }

@@ -22,7 +22,7 @@ loop-turn-preserved c =
           let within = c.requires.places c.loop-turn.turn one h in
           answers_more questions c.loop-turn.answers one.place found (search rules) (i.answers questions all)
           (record {
-            question = one.question;
+            question = one.question.now;
             there = here.there;
             key = ap (λ (x : Precomputed). x.key) made;
             extended = ap (λ (x : Precomputed). x.extended) made;

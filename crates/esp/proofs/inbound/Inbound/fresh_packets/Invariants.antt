@@ -10,5 +10,5 @@ invariant-loop-place g l = record {
   asked : All (IsAsked (octets_of l.packets)) (take l.count l.asked);
   fresh : All (HasFreshNumber l.self (octets_of l.packets)) (take l.count l.asked);
   few : l.count ≤ l.place;
-  long : length l.asked ≡ 64;
+  long : length l.asked ≡ g.row.N;
 }

@@ -1,4 +1,4 @@
-use Rattle.std.proofs.Common.{rules, ◌≡◌, ◌+◌, ◌<◌, ℕ, length, arith}
+use Rattle.std.proofs.Common.{rules}
 use Rattle.esp.proofs.FinishLemmas.{finished_short, value_put}
 use Rattle.esp.proofs.outbound.Outbound.finish.Goals as goal
 

@@ -1,7 +1,7 @@
 use Rattle.std.proofs.Common.{rules, ◌≡◌, ◌≤◌, ◌-◌, ◌∙◌, ℕ, List, ◌++◌, length, take, drop, sym, ap, subst, arith, length-append}
 use Rattle.std.proofs.lemmas.List.{take_rest}
 use Rattle.esp.specs.declared.sa.Sa.{Sa}
-use Rattle.esp.specs.Laying.{finished, finished_behind}
+use Rattle.esp.specs.Laying.{finished}
 use Rattle.esp.specs.Sealing.{Seals}
 use Rattle.esp.specs.Views.{Sending}
 use Rattle.esp.proofs.FinishLemmas.{lent_behind}
