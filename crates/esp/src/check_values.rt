@@ -13,7 +13,7 @@ use lanes::{Task, icv_all};
 pub const GROUP: usize = 64;
 
 /// How many packets a short list has, so many as there are lanes. Most arrays of one that is opened are as
-/// short: to fill longer ones would cost some 2 % of its time.
+/// short: to fill longer ones takes 4 % of the time of eight packets of 64 octets.
 pub const FEW: usize = 8;
 
 /// Writes the ICVs of packets that lie one after the other and carry these payloads, with the sequence
