@@ -1,4 +1,5 @@
 pub mod Number
 pub mod Group
 pub mod Form
+pub mod Square
 pub mod Laws

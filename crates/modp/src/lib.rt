@@ -19,7 +19,9 @@
 //! Numbers stand in 32 limbs of 64 bits, and each function is proved on the number that the limbs spell
 //! (`number`, `proofs/NumberLemmas`). A product is Montgomery's: its loop has one pass a limb, with the
 //! product by the limbs so far, divided by as many limbs but for multiples of the prime, as its invariant
-//! (`PassLemmas`). `FormLemmas` says what a product of forms stands for, and `ReductionLemmas` takes
+//! (`PassLemmas`). A square is twice the products of two limbs and the squares of each (`SquareLemmas`).
+//! It is made whole, and then divided by two limbs a pass, but for multiples of the prime
+//! (`DivisionLemmas`). `FormLemmas` says what a product of forms stands for, and `ReductionLemmas` takes
 //! remainders by what the prime lacks to 2^2048. The loop of a power has the power by the octets so far as
 //! its invariant (`PowerLemmas`). That powers commute, `powers_of_powers_agree`, is then arithmetic of
 //! plain numbers.
@@ -32,6 +34,7 @@ mod montgomery;
 mod octets;
 mod power;
 mod reduction;
+mod square;
 #[cfg(test)]
 mod tests;
 

@@ -1,5 +1,8 @@
 //! Values that python's `pow` gives, and octets that spell no element.
 use crate::Element;
+use crate::limbs::{LIMBS, Limbs};
+use crate::montgomery::{divided_product, divided_square};
+use crate::octets::limbs_of;
 use byteorder::{BigEndian, ByteOrder};
 use std::process::Abort;
 
@@ -90,6 +93,15 @@ fn spells(rt: &impl Abort, octets: &[u8; 256], trivial: bool) {
     }
 }
 
+/// A square that is divided: it is the divided product of the number with itself, with these limbs at its
+/// ends.
+fn squares(rt: &impl Abort, number: &Limbs, lowest: u64, highest: u64) {
+    let square = divided_square(number);
+    assert!(rt; square == divided_product(number, number));
+    assert!(rt; square[0] == lowest);
+    assert!(rt; square[LIMBS - 1] == highest);
+}
+
 fn refused(rt: &impl Abort, octets: &[u8]) {
     assert!(rt; Element::from_octets(octets).is_none());
 }
@@ -150,4 +162,26 @@ fn no_elements(rt: HostRuntime) {
     refused(&rt, &[]);
     refused(&rt, &[0; 255]);
     refused(&rt, &[0; 257]);
+}
+
+#[test]
+fn squares_of_numbers(rt: HostRuntime) {
+    squares(&rt, &[0; LIMBS], 0, 0);
+    squares(
+        &rt,
+        &limbs_of(&small(1)),
+        0xf5a04400c911dbc3,
+        0xf1d8005ff5b8c411,
+    );
+    squares(
+        &rt,
+        &limbs_of(&prime_ending(0xfe)),
+        0xf5a04400c911dbc3,
+        0xf1d8005ff5b8c411,
+    );
+    let mut ones = [u64::MAX; LIMBS];
+    ones[LIMBS - 1] = 0;
+    squares(&rt, &ones, 0xcabb274bb3b886f1, 0xf1d8005ff5b8c40f);
+    ones[LIMBS - 1] = 0x7fffffffffffffff;
+    squares(&rt, &ones, 0xf5a04400c911dbc3, 0x31d8005ff5b8c411);
 }
