@@ -1,3 +1,4 @@
+mod StoringLemmas
 mod PacketLemmas
 mod LawLemmas
 mod RunLemmas

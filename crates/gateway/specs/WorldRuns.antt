@@ -1,8 +1,9 @@
 -- Events at two ends as each end sees them.
-use Rattle.std.specs.Prelude.{◌≡◌, ◌<◌, ◌++◌, ℕ, List, [], ◌∷◌, length, take}
+use Rattle.std.specs.Prelude.{◌≡◌, ◌<◌, ◌++◌, ℕ, Bool, true, false, List, [], ◌∷◌, Some, length, slice_get, take}
 use Rattle.effects.specs.Taking.{Meaning}
 use Rattle.gateway.specs.Histories.{IsHistory}
 use Rattle.gateway.specs.Inputs.{Event, Input}
+use Rattle.gateway.specs.Inputs as input
 use Rattle.gateway.specs.Outputs.{output_view}
 use Rattle.gateway.specs.Promises.{KeepsPromises}
 use Rattle.gateway.specs.Runs.{Runs, StepsAs}
@@ -60,3 +61,16 @@ pub record PlaysFirst {C : Type 0} (meaning_of : C → Meaning) (count : ℕ) (e
 abbrev pub StopsPlaying : {C : Type 0} → (C → Meaning) → List Event → WorldState C → List Output → RunFault → WorldState C → List Output → Type 0
 StopsPlaying meaning_of events old before (NoRoom count) new after =
     (count < length events) × PlaysFirst meaning_of count events old before new after
+
+-- whatever becomes of such an input, nothing is sent and no SA is made: what came in ESP or unprotected, and
+-- a new secret
+abbrev pub sends_nothing : Input → Bool
+sends_nothing (input.Esp octets) = true
+sends_nothing (input.Inward packet) = true
+sends_nothing (input.Secret secret) = true
+sends_nothing _ = false
+
+-- the event before which the list was left is of another kind: something may have to be stored of it
+abbrev pub StopsBeforeSending : List Event → RunFault → Type 0
+StopsBeforeSending events (NoRoom count) =
+    (event : Event) × (slice_get events count ≡ Some event) × (sends_nothing event.input ≡ false)

@@ -1,5 +1,5 @@
 //! Two gateways, and what they sent to each other.
-ghost use Rattle.std.specs.Prelude.{◌≡◌, MatchOption, None, Some, IfErr, IfOk};
+ghost use Rattle.std.specs.Prelude.{◌≡◌, MatchOption, None, Some, IfErr, IfOk, true, false};
 ghost use Rattle.base.specs.Octets.{AreOctets, Octets};
 ghost use Rattle.ike.specs.Moves.{HasSeal};
 ghost use Rattle.gateway.specs.Inputs.{event_view, input_view};
@@ -10,6 +10,7 @@ ghost use Rattle.association.specs.Receiving.{Opening};
 ghost use Rattle.suite.specs.declared.keys.Keys.{Keys};
 ghost use Rattle.gateway.specs.BothEnds.{IsWhollySound};
 ghost use Rattle.gateway.specs.WorldParties.{IsSoundUnder};
+ghost use Rattle.gateway.specs.WorldRuns.{sends_nothing};
 ghost use Rattle.gateway.specs.Worlds.{datagram_at, gateway_at, new_world, HoldsNothing, IsFreshlyGiven, TakesEvent};
 ghost use Rattle.effects.specs.Taking.{meaning_of};
 
@@ -19,7 +20,7 @@ mod stored;
 
 use crate::laws::{every_world_stays_sound, new_worlds_are_wholly_sound};
 use crate::{Gateway, Input, Output};
-use log::{Log, most_again, take};
+use log::{Log, most_again, sends_nothing, take, take_unstored};
 pub use running::run_world;
 use std::alloc::{AllocError, Global};
 use std::marker::Model;
@@ -119,7 +120,7 @@ impl<C> World<C> {
 
 impl<C: Sealer + Agreement + Proof> World<C> {
     // An event at one end. Refused where there is no memory for what may be stored of it; then nothing
-    // happens.
+    // happens. Where it can't send or make anything it isn't refused.
     pub(crate) fn happen<'a>(
         &mut self,
         alloc: Global,
@@ -129,7 +130,11 @@ impl<C: Sealer + Agreement + Proof> World<C> {
             (meaning_of C.Sealer C.Agreement C.Proof)
             (event_view event.now) self.old (output_view output) self.new) }
         ensures refused { IfErr result (λ _. self.new ≡ self.old) }
+        ensures sends { IfErr result (λ _. sends_nothing (event_view event.now).input ≡ false) }
     {
+        if sends_nothing(&event.input) {
+            return Ok(self.happen_unstored(alloc, event));
+        }
         input_is_fresh(&event.input);
         let again = most_again(&event.input, self.gateway(event.end));
         let spare = self.log.prepare(alloc, again)?;
@@ -142,6 +147,26 @@ impl<C: Sealer + Agreement + Proof> World<C> {
             End::B => {
                 self.b.invariants_hold();
                 Ok(take(alloc, End::B, &event.input, &mut self.b, log, spare))
+            }
+        }
+    }
+
+    // An event at one end of which there is nothing to store.
+    fn happen_unstored<'a>(&mut self, alloc: Global, event: &Event<'a>) -> Output<'a>
+        requires { sends_nothing (event_view event.now).input ≡ true }
+        ensures { TakesEvent
+            (meaning_of C.Sealer C.Agreement C.Proof)
+            (event_view event.now) self.old (output_view result) self.new }
+    {
+        input_is_fresh(&event.input);
+        match event.end {
+            End::A => {
+                self.a.invariants_hold();
+                take_unstored(alloc, &event.input, &mut self.a)
+            }
+            End::B => {
+                self.b.invariants_hold();
+                take_unstored(alloc, &event.input, &mut self.b)
             }
         }
     }

@@ -1,12 +1,14 @@
 //! What two gateways sent and made, and one step of one of them.
-ghost use Rattle.std.specs.Prelude.{◌≡◌, ◌+◌, ◌++◌, ◌≤◌, ◌<◌, ◌^◌, ◌∷◌, [], All, MatchOption, None, Some, IfErr, IfOk, length, map, vec_len};
+ghost use Rattle.std.specs.Prelude.{◌≡◌, ◌+◌, ◌++◌, ◌≤◌, ◌<◌, ◌^◌, ◌∷◌, [], All, MatchOption, None, Some, IfErr, IfOk, length, map, true, vec_len};
 ghost use Rattle.std.specs.Option.{option_to_list};
 ghost use Rattle.std.specs.Vec.{vec_capacity};
 ghost use Rattle.wire.specs.Numbers.{MESSAGE_LIMIT, SELECTOR_LIMIT};
 ghost use Rattle.gateway.specs.Inputs.{input_view};
 ghost use Rattle.gateway.specs.Outputs.{output_view, DATAGRAM_LIMIT, FitsChild, FitsDatagram};
 ghost use Rattle.gateway.specs.Storing.{again_by, AreSpare, HasRoom, IsShortResent, IsSpare, IsSpareMessage, TakesAt};
-ghost use Rattle.gateway.specs.Worlds.{again_as, child_by, esp_mark, ike_mark, keyed_by, mark_again, nothing_stored, requests_in, sent_once, simplex_of, stored_by};
+ghost use Rattle.gateway.specs.WorldRuns.{sends_nothing};
+ghost use Rattle.gateway.specs.Worlds.{again_as, child_by, esp_mark, ike_mark, keyed_by, mark_again, nothing_stored, requests_in, sent_once, simplex_of, stored_by, Stored};
+ghost use Rattle.gateway.specs.declared.world.stored.End.{End};
 ghost use Rattle.effects.specs.Taking.{meaning_of};
 
 use super::stored::{Child, Datagram, End, Keyed, Protection, Simplex};
@@ -124,6 +126,31 @@ pub fn take<'a, C: Sealer + Agreement + Proof>(
         datagram(end, gateway, trace.sent, &output, octets),
     );
     keep_all(&mut log.sent, end, gateway, requests_in(&output), again);
+    output
+}
+
+/// Whether nothing is sent and no SA is made, whatever becomes of this input.
+pub fn sends_nothing(input: &Input<'_>) -> bool
+    ensures { result ≡ sends_nothing (input_view input.now) }
+{
+    match input {
+        Input::Esp { .. } | Input::Inward { .. } | Input::Secret { .. } => true,
+        _ => false,
+    }
+}
+
+/// Has a gateway take a step of which there is nothing to store.
+pub fn take_unstored<'a, C: Sealer + Agreement + Proof>(
+    alloc: Global,
+    input: &Input<'a>,
+    gateway: &mut Gateway<C>,
+) -> Output<'a>
+    requires { sends_nothing (input_view input.now) ≡ true }
+    ensures { (end : End) (stored : Stored) → TakesAt
+        (meaning_of C.Sealer C.Agreement C.Proof gateway.old.caller)
+        end (input_view input.now) gateway.old stored (output_view result) gateway.new stored }
+{
+    let Traced { output, .. } = gateway.traced_step(alloc, input);
     output
 }
 

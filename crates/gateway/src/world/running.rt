@@ -1,8 +1,9 @@
 //! A list of events at two ends.
-ghost use Rattle.std.specs.Prelude.{OnOk, IfErr, length, map};
+ghost use Rattle.std.specs.Prelude.{◌+◌, ◌≤◌, OnOk, IfErr, length, map, vec_len};
+ghost use Rattle.std.specs.Vec.{vec_capacity};
 ghost use Rattle.gateway.specs.BothEnds.{KeepsBothEnds};
 ghost use Rattle.gateway.specs.Inputs.{event_view};
-ghost use Rattle.gateway.specs.WorldRuns.{PlaysFirst, StopsPlaying};
+ghost use Rattle.gateway.specs.WorldRuns.{PlaysFirst, StopsBeforeSending, StopsPlaying};
 ghost use Rattle.effects.specs.Taking.{meaning_of};
 
 use super::{Event, World};
@@ -18,8 +19,10 @@ use suite::{Agreement, Proof, Sealer};
 /// Ends with [`RunFault::NoRoom`] (E38) and the number of events that took place, the first ones, where
 /// there was no memory for the next output or for what may be stored of it. That is one datagram of at most
 /// 16,664 octets, one key record and one Child SA, and for a `Tick` 3000 octets for each request that waits
-/// for an answer. All of it is reserved before an event takes place, so none does without its output. (That
-/// E38 comes in no other case is tested and not proved: no contract says when memory is there.)
+/// for an answer. All of it is reserved before an event takes place, so none does without its output. What
+/// came in ESP or unprotected and a new secret send nothing: where the outputs have room, the list never
+/// ends before one of these. (That E38 comes in no other case is tested and not proved: no contract says
+/// when memory is there.)
 ///
 /// Each end alone keeps what [`run`](crate::run) promises. Both together keep the following, over every
 /// list of events. A world that is *sound* under a key record stays so, as long as neither end came to the
@@ -60,6 +63,8 @@ pub fn run_world<'a, C: Sealer + Agreement + Proof>(
     ensures stopped { IfErr result (λ fault. StopsPlaying
         (meaning_of C.Sealer C.Agreement C.Proof)
         (map event_view events.now) world.old outputs.old.items fault world.new outputs.new.items) }
+    ensures room { vec_len outputs.old + length events.now ≤ vec_capacity outputs.old
+        → IfErr result (StopsBeforeSending (map event_view events.now)) }
     ensures both { KeepsBothEnds C.body_of C.plain_of
         (meaning_of C.Sealer C.Agreement C.Proof)
         (map event_view events.now) world.old outputs.old.items world.new outputs.new.items }

@@ -1,10 +1,11 @@
-use Rattle.std.proofs.Common.{◌≡◌, ℕ, List, [], ◌∷◌, ◌++◌, length, map, sym, ◌∙◌, subst, arith}
+use Rattle.std.proofs.Common.{◌≡◌, ℕ, List, [], ◌∷◌, ◌++◌, length, map, refl, sym, ◌∙◌, subst, arith}
+use Rattle.std.proofs.lemmas.Option.{slice_get_read}
 use Rattle.effects.specs.Taking.{Meaning}
 use Rattle.gateway.specs.Inputs.{Event, event_view}
 use Rattle.gateway.specs.Runs.{Runs}
 use Rattle.gateway.specs.BothEnds.{KeepsBothEnds}
 use Rattle.gateway.specs.WorldRuns.{HappensAs, PlaysFirst}
-use Rattle.gateway.proofs.RunLemmas.{pushed_after, run_more, take_next_image, within_image}
+use Rattle.gateway.proofs.RunLemmas.{next_in_image, pushed_after, run_more, take_next_image, within_image}
 use Rattle.gateway.proofs.CarryLemmas.{keeps_both_ends}
 use Rattle.gateway.proofs.WorldLemmas.{plays}
 use Rattle.gateway.proofs.world.running.run_world.Goals as goal
@@ -62,7 +63,16 @@ loop-done-preserved g c =
       appended = pushed_after c.args.outputs.now.items i.answers c.reserve.new.self.items c.push_reserved.new.self.items o c.push_reserved.ensures.items (c.reserve.ensures.items ∙ i.appended);
       runs = subst (λ (is : List Event). Runs (HappensAs meaning_of) is (i.answers ++ o ∷ []) c.args.world.now c.happen.new.self) (sym (take_next_image event_view c.args.events.now c.loop-done.done _ c.loop-done-test.true))
           (run_more (HappensAs meaning_of) c.args.world.now _ i.answers c.loop-done.world _ o c.happen.new.self i.runs c.in-Ok.ensures.happened);
+      length_now = omega (arith, c.push_reserved.ensures.len, c.reserve.ensures.len, i.length_now);
+      capacity = omega (arith, i.capacity, c.reserve.ensures.capacity, c.push_reserved.ensures.capacity);
     }
+
+pub returns-in_default-clause-room : goal.returns-in_default-clause-room
+returns-in_default-clause-room g c = λ room. (
+  event_view _,
+  slice_get_read (map event_view c.args.events.now) _ c.loop-done.done _ refl (within_image event_view c.args.events.now c.loop-done.done c.loop-done-test.true) (next_in_image event_view c.args.events.now c.loop-done.done _ c.loop-done-test.true),
+  c.in_default.ensures.sends,
+)
 
 pub returns-clause-all : goal.returns-clause-all
 returns-clause-all g c =

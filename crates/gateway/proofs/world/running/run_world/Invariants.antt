@@ -1,4 +1,6 @@
-use Rattle.std.proofs.Common.{◌≡◌, ◌++◌, List, map, take}
+use Rattle.std.proofs.Common.{◌≡◌, ◌++◌, ◌+◌, ◌≤◌, List, map, take}
+use Rattle.std.specs.Prelude.{vec_len}
+use Rattle.std.specs.Vec.{vec_capacity}
 use Rattle.gateway.specs.Inputs.{event_view}
 use Rattle.gateway.specs.Runs.{Runs}
 use Rattle.gateway.specs.WorldRuns.{HappensAs}
@@ -23,4 +25,6 @@ invariant-loop-done g l = record {
         accepts = g.C.Proof.accepts caller;
       }))
       (take l.done (map event_view l.events)) answers l.fn.world l.world;
+  length_now : vec_len l.outputs ≡ vec_len l.fn.outputs + l.done;
+  capacity : vec_capacity l.fn.outputs ≤ vec_capacity l.outputs;
 }
