@@ -3,7 +3,6 @@ use Rattle.std.proofs.Common.{◌≡◌, ℕ, zero, suc, ◌+◌, ◌<◌, ◌�
 use Rattle.std.specs.Prelude.{◌||◌, ◌&&◌, nat_eq, nat_lt, slice_get, max}
 use Rattle.std.specs.Ordering.{nat_cmp}
 use Rattle.std.specs.FinSet as set
-use Rattle.std.specs.Prelude.{if◌then◌else◌, is_ok}
 use Rattle.std.proofs.lemmas.List.{append_assoc, take-map, map_more}
 use Rattle.std.proofs.Math.Seq.{drop-append_seam}
 use Rattle.std.proofs.lemmas.Bool.{and_left, and_cases, and_parts, and_from, ltb-true, lt-ltb, cases_Bool, false≢true, both_ways}
@@ -408,14 +407,9 @@ answers_first want k old packets before new after answers sound appended count r
   deliveries = deliveries want old (take k packets) answers new sound run;
 }
 
--- one more element, where the push went well
-pub pushed : {X T E : Type 0} (r : Result T E) (v : T) (start front mid after : List X) (x : X)
-    → r ≡ Ok v → after ≡ (if is_ok r then mid ++ x ∷ [] else mid) → mid ≡ start ++ front → after ≡ start ++ (front ++ x ∷ [])
-pushed r v start front mid after x went is before =
-    is
-    ∙ ap (λ (q : Result _ _). if is_ok q then mid ++ x ∷ [] else mid) went
-    ∙ ap (λ (xs : List _). xs ++ x ∷ []) before
-    ∙ append_assoc start front (x ∷ [])
+-- one more element
+pub pushed : {X : Type 0} (start front mid after : List X) (x : X) → after ≡ mid ++ x ∷ [] → mid ≡ start ++ front → after ≡ start ++ (front ++ x ∷ [])
+pushed start front mid after x is before = is ∙ ap (λ (xs : List _). xs ++ x ∷ []) before ∙ append_assoc start front (x ∷ [])
 
 -- packets behind those that have an answer don't count
 counted_front : (packets : List (List ℕ)) (answers : List Answer) → delivered_packets (take (length answers) packets) answers ≡ delivered_packets packets answers
@@ -476,7 +470,3 @@ pub at_first_by : (want : Type 0) (old : Receiving) (packets : List (List ℕ)) 
     → JudgesExactlyAtFirst old packets (answers_since before after)
 at_first_by want old packets before new after k (Ok u) all stopped = at_first all
 at_first_by want old packets before new after k (Err stop) all stopped = at_first stopped.first
-
--- the length, where the push went well
-pub length_pushed : {T E : Type 0} (r : Result T E) (v : T) (before after : ℕ) → r ≡ Ok v → after ≡ (if is_ok r then before + 1 else before) → after ≡ before + 1
-length_pushed r v before after went is = is ∙ ap (λ (q : Result _ _). if is_ok q then before + 1 else before) went

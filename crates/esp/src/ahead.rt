@@ -5,7 +5,7 @@ ghost use Rattle.esp.specs.declared.sa.Sa.{Sa};
 ghost use Rattle.esp.specs.Ahead.{AreAhead, HasAhead, IsAsked, value_asked};
 ghost use Rattle.esp.specs.Delivery.{octets_of};
 
-use crate::check_values::GROUP;
+use crate::check_values::{FEW, GROUP};
 use crate::load::messages_least;
 use crate::packet::CHECK;
 use crate::sa::Sa;
@@ -58,23 +58,68 @@ pub fn values_ahead<const N: usize>(
 {
     let mut values = [[0; CHECK]; N];
     let count = asked.len();
-    let tasks = tasks_for(association, packets, asked);
-    icv_all(&tasks[..count], &mut values[..count], messages_least(least));
+    if count <= FEW {
+        compute_few(association, packets, asked, &mut values[..count], least);
+    } else {
+        compute_group(association, packets, asked, &mut values[..count], least);
+    }
     placed::<N>(asked, &values[..count])
 }
 
-// What is asked of each packet: its covered octets, and the half of its sequence number that is not sent.
-fn tasks_for<'a>(association: &'a Sa, packets: &[&'a [u8]], asked: &'a [Asked]) -> [Task<'a>; GROUP]
+// Computes the ICVs of a few packets.
+fn compute_few<'a>(
+    association: &'a Sa,
+    packets: &[&'a [u8]],
+    asked: &'a [Asked],
+    values: &mut [[u8; CHECK]],
+    least: usize,
+)
+    requires few { length asked.now ≤ FEW }
+    requires asked { All (IsAsked (octets_of packets.now)) asked.now }
+    requires places { length values.old ≡ length asked.now }
+    ensures { values.new ≡ map (value_asked association.now (octets_of packets.now)) asked.now }
+{
+    let mut tasks = [association.task(&[], &[0; 4]); FEW];
+    set_tasks(&mut tasks, association, packets, asked);
+    icv_all(&tasks[..asked.len()], values, messages_least(least));
+}
+
+// Computes the ICVs of the packets of a group. Not inlined, so that a few don't clear its array.
+#[inline(never)]
+fn compute_group<'a>(
+    association: &'a Sa,
+    packets: &[&'a [u8]],
+    asked: &'a [Asked],
+    values: &mut [[u8; CHECK]],
+    least: usize,
+)
     requires few { length asked.now ≤ GROUP }
     requires asked { All (IsAsked (octets_of packets.now)) asked.now }
-    ensures { map icv_of (take (length asked.now) result)
-        ≡ map (value_asked association.now (octets_of packets.now)) asked.now }
+    requires places { length values.old ≡ length asked.now }
+    ensures { values.new ≡ map (value_asked association.now (octets_of packets.now)) asked.now }
 {
     let mut tasks = [association.task(&[], &[0; 4]); GROUP];
+    set_tasks(&mut tasks, association, packets, asked);
+    icv_all(&tasks[..asked.len()], values, messages_least(least));
+}
+
+// Sets the first tasks to what is asked of each packet: its covered octets, and the half of its sequence
+// number that is not sent.
+fn set_tasks<'a>(
+    tasks: &mut [Task<'a>],
+    association: &'a Sa,
+    packets: &[&'a [u8]],
+    asked: &'a [Asked],
+)
+    requires places { length asked.now ≤ length tasks.old }
+    requires asked { All (IsAsked (octets_of packets.now)) asked.now }
+    ensures asked { map icv_of (take (length asked.now) tasks.new)
+        ≡ map (value_asked association.now (octets_of packets.now)) asked.now }
+    ensures long { length tasks.new ≡ length tasks.old }
+{
     for (turn, one) in asked.iter().enumerate() {
         tasks[turn] = association.task(covered_of(packets[one.place]), &one.half);
     }
-    tasks
 }
 
 // The octets of a packet that its ICV covers.

@@ -12,8 +12,8 @@ use lanes::{Task, icv_all};
 /// How many ICVs are computed at once.
 pub const GROUP: usize = 64;
 
-/// How many packets a short list has, so many as there are lanes. Most arrays of one that is opened are as
-/// short: to fill longer ones takes 4 % of the time of eight packets of 64 octets.
+/// How many packets a short list has, so many as there are lanes. Its arrays of tasks and of answers are as
+/// short: to fill longer ones would take some hundredths of its time.
 pub const FEW: usize = 8;
 
 /// Writes the ICVs of packets that lie one after the other and carry these payloads, with the sequence
@@ -45,7 +45,7 @@ pub fn write_check_values(
     write_all(payloads, &values[..count], packets);
 }
 
-// Computes the ICV of each packet.
+// Computes the ICV of each packet. A short list has a short array of tasks.
 fn compute_all(
     association: &Sa,
     last: u64,
@@ -62,32 +62,80 @@ fn compute_all(
     ensures { values.new ≡ values_in association.now last (covered_sizes payloads.now) packets.now }
 {
     let halves = high_halves(last, payloads.len());
-    let tasks = tasks_of(association, payloads, packets, &halves);
-    icv_all(&tasks[..payloads.len()], values, messages_least(least));
+    if payloads.len() <= FEW {
+        compute_few(association, payloads, packets, &halves, values, least);
+    } else {
+        compute_group(association, payloads, packets, &halves, values, least);
+    }
 }
 
-// What is asked of each packet: its covered octets, and the half of its sequence number that is not sent.
-fn tasks_of<'a>(
+// The same of a short list.
+fn compute_few<'a>(
     association: &'a Sa,
     payloads: &[&[u8]],
     packets: &'a [u8],
     halves: &'a [[u8; 4]; GROUP],
-) -> [Task<'a>; GROUP]
+    values: &mut [[u8; CHECK]],
+    least: usize,
+)
+    requires few { length payloads.now ≤ FEW }
+    requires fit { (i : ℕ) → i < length payloads.now → FitsPacket (get_or (payloads_of payloads.now) i []) }
+    requires size { packets_size (covered_sizes payloads.now) ≤ length packets.now }
+    requires places { length values.old ≡ length payloads.now }
+    ensures { (last : ℕ) → AreHighHalves last (length payloads.now) halves.now
+        → values.new ≡ values_in association.now last (covered_sizes payloads.now) packets.now }
+{
+    let mut tasks = [association.task(&[], &[0; 4]); FEW];
+    set_tasks(&mut tasks, association, payloads, packets, halves);
+    icv_all(&tasks[..payloads.len()], values, messages_least(least));
+}
+
+// The same of another. Not inlined, so that a short list doesn't clear its array.
+#[inline(never)]
+fn compute_group<'a>(
+    association: &'a Sa,
+    payloads: &[&[u8]],
+    packets: &'a [u8],
+    halves: &'a [[u8; 4]; GROUP],
+    values: &mut [[u8; CHECK]],
+    least: usize,
+)
     requires few { length payloads.now ≤ GROUP }
     requires fit { (i : ℕ) → i < length payloads.now → FitsPacket (get_or (payloads_of payloads.now) i []) }
     requires size { packets_size (covered_sizes payloads.now) ≤ length packets.now }
+    requires places { length values.old ≡ length payloads.now }
     ensures { (last : ℕ) → AreHighHalves last (length payloads.now) halves.now
-        → map icv_of (take (length payloads.now) result)
-        ≡ values_in association.now last (covered_sizes payloads.now) packets.now }
+        → values.new ≡ values_in association.now last (covered_sizes payloads.now) packets.now }
 {
     let mut tasks = [association.task(&[], &[0; 4]); GROUP];
+    set_tasks(&mut tasks, association, payloads, packets, halves);
+    icv_all(&tasks[..payloads.len()], values, messages_least(least));
+}
+
+// Sets the first tasks to what is asked of each packet: its covered octets, and the half of its sequence
+// number that is not sent.
+fn set_tasks<'a>(
+    tasks: &mut [Task<'a>],
+    association: &'a Sa,
+    payloads: &[&[u8]],
+    packets: &'a [u8],
+    halves: &'a [[u8; 4]; GROUP],
+)
+    requires few { length payloads.now ≤ GROUP }
+    requires places { length payloads.now ≤ length tasks.old }
+    requires fit { (i : ℕ) → i < length payloads.now → FitsPacket (get_or (payloads_of payloads.now) i []) }
+    requires size { packets_size (covered_sizes payloads.now) ≤ length packets.now }
+    ensures asked { (last : ℕ) → AreHighHalves last (length payloads.now) halves.now
+        → map icv_of (take (length payloads.now) tasks.new)
+        ≡ values_in association.now last (covered_sizes payloads.now) packets.now }
+    ensures long { length tasks.new ≡ length tasks.old }
+{
     let mut start = 0;
     for (place, payload) in payloads.iter().enumerate() {
         let end = start + covered_size(payload.len());
         tasks[place] = association.task(&packets[start..end], &halves[place]);
         start = end + CHECK;
     }
-    tasks
 }
 
 // The high halves of so many sequence numbers after `last`.

@@ -392,7 +392,7 @@ impl<W: Window> Inbound<W> {
                 return done;
             }
             let answer = self.open_with(packet, ahead_at(ahead, done));
-            out.push(answer).unwrap();
+            out.push_reserved(answer);
         }
         packets.len()
     }

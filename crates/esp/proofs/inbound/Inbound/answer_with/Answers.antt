@@ -8,7 +8,7 @@ use Rattle.esp.specs.Ahead.{IsAhead}
 use Rattle.esp.specs.Delivery.{octets_of}
 use Rattle.esp.proofs.AheadLemmas.{if_ahead}
 use Rattle.esp.proofs.OpeningLemmas.{step_of}
-use Rattle.esp.proofs.Runs.{run_more, step_keeps, take-map_more, pushed, length_pushed}
+use Rattle.esp.proofs.Runs.{run_more, step_keeps, take-map_more, pushed}
 use Rattle.esp.proofs.inbound.Inbound.answer_with.Goals as goal
 
 -- what stands for a packet behind the last
@@ -67,12 +67,12 @@ loop-done-preserved g c =
     in
     record {
       answers = i.answers ++ answer ∷ [];
-      appended = pushed c.push.result _ c.args.out.now.items i.answers c.reserve.new.self.items c.push.new.self.items answer c.unwrap.ensures c.push.ensures.items (c.reserve.ensures.items ∙ i.appended);
+      appended = pushed c.args.out.now.items i.answers c.reserve.new.self.items c.push_reserved.new.self.items answer c.push_reserved.ensures.items (c.reserve.ensures.items ∙ i.appended);
       count = length_push i.answers answer ∙ ap (λ (n : ℕ). n + 1) i.count;
       run = subst (λ (bs : List (List ℕ)). Run g.W.Window.may_want c.args.self.now bs (i.answers ++ answer ∷ []) c.open_with-answer.new.self) (sym more)
           (run_more _ c.args.self.now _ i.answers c.loop-done.self packet.now answer c.open_with-answer.new.self i.run step);
-      length_now = omega (arith, length_pushed c.push.result _ _ _ c.unwrap.ensures c.push.ensures.len, c.reserve.ensures.len, i.length_now);
-      capacity = omega (arith, i.capacity, c.reserve.ensures.capacity, c.push.ensures.capacity);
+      length_now = omega (arith, c.push_reserved.ensures.len, c.reserve.ensures.len, i.length_now);
+      capacity = omega (arith, i.capacity, c.reserve.ensures.capacity, c.push_reserved.ensures.capacity);
       association = step_keeps _ _ _ _ _ step ∙ i.association;
     }
 

@@ -2,7 +2,7 @@ use Rattle.std.proofs.Common.{rules, ◌≡◌, ◌∙◌, sym, ap, ℕ, [], ◌
 use Rattle.std.proofs.lemmas.List.{length-set}
 use Rattle.esp.specs.Laying.{covered_sizes}
 use Rattle.esp.proofs.LayingLemmas.{fits_at, sizes_more, room_more, task_value, task_more}
-use Rattle.esp.proofs.check_values.tasks_of.Goals as goal
+use Rattle.esp.proofs.check_values.set_tasks.Goals as goal
 
 pub covered_size-requires : goal.covered_size-requires
 covered_size-requires c = fits_at c.args.payloads.now c.loop-place.place _ c.requires.fit c.loop-place-test.true
@@ -12,8 +12,8 @@ overflow_add-end c =
     let room = room_more c.args.payloads.now c.loop-place.place c.loop-place.start c.covered_size.result (length c.args.packets.now) (record { ref_ptr = (0, 0); now = [] }) c.loop-place-test.true c.covered_size.ensures c.loop-place.invariant.room in
     search rules
 
-pub slice_bounds-task-end-in-loop-place : goal.slice_bounds-task-end-in-loop-place
-slice_bounds-task-end-in-loop-place c =
+pub slice_bounds-task-end : goal.slice_bounds-task-end
+slice_bounds-task-end c =
     let room = room_more c.args.payloads.now c.loop-place.place c.loop-place.start c.covered_size.result (length c.args.packets.now) (record { ref_ptr = (0, 0); now = [] }) c.loop-place-test.true c.covered_size.ensures c.loop-place.invariant.room in
     let ends : c.loop-place.start + c.covered_size.result ≤ length c.args.packets.now = omega arith in
     let begins : c.loop-place.start ≤ c.loop-place.start + c.covered_size.result = omega arith in
