@@ -58,9 +58,6 @@ none_in n i = elim (cases_lt i n) [
   | inr past ↦ get_or_past (replicate n None) i None (omega (arith, length-replicate {A = Option Precomputed} n None))
 ]
 
-pub none_precomputed : (packets : ℕ → List ℕ) (n : ℕ) → ArePrecomputed packets (replicate n None)
-none_precomputed packets n = record { each = λ i found there. (let nothing = none_in n i in absurd (cc)) }
-
 pub none_answers : (questions : List (Option Question)) (n : ℕ) → AreAnswers questions (replicate n None)
 none_answers questions n = record { each = λ i found there. (let nothing = none_in n i in absurd (cc)) }
 

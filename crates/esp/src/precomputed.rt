@@ -7,7 +7,7 @@ ghost use Rattle.esp.specs.Ahead.{IsAhead};
 ghost use Rattle.esp.specs.Precomputed.{AreAnswers, ArePrecomputed, AreQuestions, IsAskedIn, IsPrecomputed, IsQuestion, asked_value, value_of_asked};
 
 use crate::ahead::Ahead;
-use crate::check_values::GROUP;
+use crate::check_values::{FEW, GROUP};
 use crate::load::{gain_by_lanes, messages_least};
 use crate::packet::{CHECK, high_half};
 use crate::sa::Sa;
@@ -132,14 +132,73 @@ pub fn precompute(questions: &[Option<Question<'_>>], least: usize) -> [Option<P
     ensures { (packets : ℕ → List ℕ) → AreQuestions packets questions.now
         → ArePrecomputed packets result }
 {
-    let Some(first) = first_of(questions) else {
-        return [None; GROUP];
-    };
-    let (asked, count) = asked_of(questions, first);
-    if !gain_by_lanes(&asked[..count], least) {
-        return [None; GROUP];
+    let mut answers = [None; GROUP];
+    if questions.len() <= FEW {
+        answer_few(questions, &mut answers, least);
+    } else {
+        answer_group(questions, &mut answers, least);
     }
-    answers_to(&asked[..count], least)
+    answers
+}
+
+// Sets the answers to a few questions, where that gains time.
+fn answer_few<'a>(
+    questions: &'a [Option<Question<'a>>],
+    answers: &mut [Option<Precomputed>],
+    least: usize,
+)
+    requires few { length questions.now ≤ FEW }
+    requires room { length questions.now ≤ length answers.old }
+    requires none { AreAnswers questions.now answers.old }
+    ensures answers { AreAnswers questions.now answers.new }
+    ensures long { length answers.new ≡ length answers.old }
+{
+    let Some(first) = first_of(questions) else {
+        return;
+    };
+    let mut asked = [Asked {
+        place: 0,
+        question: first,
+    }; FEW];
+    let count = set_asked(&mut asked, questions);
+    if gain_by_lanes(&asked[..count], least) {
+        let mut tasks = [first.task(); FEW];
+        set_tasks(&mut tasks, &asked[..count]);
+        let mut values = [[0; CHECK]; FEW];
+        icv_all(&tasks[..count], &mut values[..count], messages_least(least));
+        set_answers(answers, &asked[..count], &values[..count]);
+    }
+}
+
+// Sets the answers to a group's questions, where that gains time. Not inlined, so that a few don't clear its
+// arrays.
+#[inline(never)]
+fn answer_group<'a>(
+    questions: &'a [Option<Question<'a>>],
+    answers: &mut [Option<Precomputed>],
+    least: usize,
+)
+    requires few { length questions.now ≤ GROUP }
+    requires room { length questions.now ≤ length answers.old }
+    requires none { AreAnswers questions.now answers.old }
+    ensures answers { AreAnswers questions.now answers.new }
+    ensures long { length answers.new ≡ length answers.old }
+{
+    let Some(first) = first_of(questions) else {
+        return;
+    };
+    let mut asked = [Asked {
+        place: 0,
+        question: first,
+    }; GROUP];
+    let count = set_asked(&mut asked, questions);
+    if gain_by_lanes(&asked[..count], least) {
+        let mut tasks = [first.task(); GROUP];
+        set_tasks(&mut tasks, &asked[..count]);
+        let mut values = [[0; CHECK]; GROUP];
+        icv_all(&tasks[..count], &mut values[..count], messages_least(least));
+        set_answers(answers, &asked[..count], &values[..count]);
+    }
 }
 
 // The first question, if there is one.
@@ -152,20 +211,14 @@ fn first_of<'a>(questions: &'a [Option<Question<'a>>]) -> Option<&'a Question<'a
     None
 }
 
-// The questions, one behind the other, each with its place; and how many. Behind them stands the first one,
-// which is of no use there.
-fn asked_of<'a>(
-    questions: &'a [Option<Question<'a>>],
-    first: &'a Question<'a>,
-) -> ([Asked<'a>; GROUP], usize)
-    requires few { length questions.now ≤ GROUP }
-    ensures asked { All (IsAskedIn questions.now) (take result.1 result.0) }
-    ensures few { result.1 ≤ length questions.now }
+// Sets the first places to the questions, one behind the other, each with its place; and says how many they
+// are.
+fn set_asked<'a>(asked: &mut [Asked<'a>], questions: &'a [Option<Question<'a>>]) -> usize
+    requires room { length questions.now ≤ length asked.old }
+    ensures asked { All (IsAskedIn questions.now) (take result asked.new) }
+    ensures few { result ≤ length questions.now }
+    ensures long { length asked.new ≡ length asked.old }
 {
-    let mut asked = [Asked {
-        place: 0,
-        question: first,
-    }; GROUP];
     let mut count = 0;
     for (place, question) in questions.iter().enumerate() {
         if let Some(question) = question {
@@ -173,45 +226,29 @@ fn asked_of<'a>(
             count += 1;
         }
     }
-    (asked, count)
+    count
 }
 
-fn answers_to(asked: &[Asked<'_>], least: usize) -> [Option<Precomputed>; GROUP]
-    requires some { 1 ≤ length asked.now }
-    requires few { length asked.now ≤ GROUP }
-    requires places { All (λ one. one.place < GROUP) asked.now }
-    ensures { (questions : List (Option Question)) → All (IsAskedIn questions) asked.now
-        → AreAnswers questions result }
+// Sets the first tasks to what is asked.
+fn set_tasks<'a>(tasks: &mut [Task<'a>], asked: &[Asked<'a>])
+    requires room { length asked.now ≤ length tasks.old }
+    ensures asked { map icv_of (take (length asked.now) tasks.new) ≡ map value_of_asked asked.now }
+    ensures long { length tasks.new ≡ length tasks.old }
 {
-    let mut values = [[0; CHECK]; GROUP];
-    let count = asked.len();
-    let tasks = tasks_for(asked);
-    icv_all(&tasks[..count], &mut values[..count], messages_least(least));
-    placed(asked, &values[..count])
-}
-
-fn tasks_for<'a>(asked: &'a [Asked<'a>]) -> [Task<'a>; GROUP]
-    requires some { 1 ≤ length asked.now }
-    requires few { length asked.now ≤ GROUP }
-    ensures { map icv_of (take (length asked.now) result) ≡ map value_of_asked asked.now }
-{
-    let mut tasks = [asked[0].question.task(); GROUP];
     for (turn, one) in asked.iter().enumerate() {
         tasks[turn] = one.question.task();
     }
-    tasks
 }
 
-// The values, each at the place of the packet that it was asked for.
-fn placed(asked: &[Asked<'_>], values: &[[u8; CHECK]]) -> [Option<Precomputed>; GROUP]
-    requires places { All (λ one. one.place < GROUP) asked.now }
+// Sets the answers, each at the place of the packet that it was asked for.
+fn set_answers(answers: &mut [Option<Precomputed>], asked: &[Asked<'_>], values: &[[u8; CHECK]])
+    requires places { All (λ one. one.place < length answers.old) asked.now }
     requires right { values.now ≡ map value_of_asked asked.now }
-    ensures { (questions : List (Option Question)) → All (IsAskedIn questions) asked.now
-        → AreAnswers questions result }
+    ensures answers { (questions : List (Option Question)) → All (IsAskedIn questions) asked.now
+        → AreAnswers questions answers.old → AreAnswers questions answers.new }
+    ensures long { length answers.new ≡ length answers.old }
 {
-    let mut answers = [None; GROUP];
     for (turn, one) in asked.iter().enumerate() {
         answers[one.place] = Some(one.question.answered(values[turn]));
     }
-    answers
 }

@@ -1,13 +1,16 @@
-use Rattle.std.proofs.Common.{rules}
-use Rattle.esp.proofs.PrecomputedLemmas.{answers_are_right, none_precomputed}
+use Rattle.esp.proofs.PrecomputedLemmas.{answers_are_right, none_answers}
 use Rattle.esp.proofs.precomputed.precompute.Goals as goal
 
-pub returns-in_default : goal.returns-in_default
-returns-in_default c = λ packets asked. none_precomputed packets 64
+pub answer_few-requires-clause-none : goal.answer_few-requires-clause-none
+answer_few-requires-clause-none c = none_answers c.args.questions.now 64
 
-pub returns-then-not-gain_by_lanes : goal.returns-then-not-gain_by_lanes
-returns-then-not-gain_by_lanes c = λ packets asked. none_precomputed packets 64
+pub answer_group-requires-clause-none : goal.answer_group-requires-clause-none
+answer_group-requires-clause-none c = none_answers c.args.questions.now 64
 
-pub returns : goal.returns
-returns c = λ packets asked.
-    answers_are_right packets c.args.questions.now c.answers_to.result asked (c.answers_to.ensures c.args.questions.now (search rules))
+pub returns-then-questions-le-FEW : goal.returns-then-questions-le-FEW
+returns-then-questions-le-FEW c = λ packets asked.
+    answers_are_right packets c.args.questions.now c.answer_few.new.answers asked c.answer_few.ensures.answers
+
+pub returns-else-questions-le-FEW : goal.returns-else-questions-le-FEW
+returns-else-questions-le-FEW c = λ packets asked.
+    answers_are_right packets c.args.questions.now c.answer_group.new.answers asked c.answer_group.ensures.answers

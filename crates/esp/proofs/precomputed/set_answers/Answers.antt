@@ -2,11 +2,11 @@ use Rattle.std.proofs.Common.{rules, ◌∙◌, ℕ, List, [], get_or, refl, sym
 use Rattle.std.proofs.lemmas.List.{get_or-map}
 use Rattle.esp.specs.declared.precomputed.Precomputed.{Precomputed}
 use Rattle.esp.specs.Precomputed.{IsAskedIn, value_of_asked}
-use Rattle.esp.proofs.PrecomputedLemmas.{answers_more, none_answers}
-use Rattle.esp.proofs.precomputed.placed.Goals as goal
+use Rattle.esp.proofs.PrecomputedLemmas.{answers_more}
+use Rattle.esp.proofs.precomputed.set_answers.Goals as goal
 
 pub loop-turn-init : goal.loop-turn-init
-loop-turn-init c = record { answers = λ questions all. none_answers questions 64; long = refl }
+loop-turn-init c = record { answers = λ questions all before. before; long = refl }
 
 pub loop-turn-preserved : goal.loop-turn-preserved
 loop-turn-preserved c =
@@ -17,10 +17,10 @@ loop-turn-preserved c =
     let found = c.answered.result in
     let made = c.answered.ensures in
     record {
-      answers = λ questions all. (
+      answers = λ questions all before. (
           let here : IsAskedIn questions one = subst (IsAskedIn questions) (sym is) (all c.loop-turn.turn one h) in
           let within = c.requires.places c.loop-turn.turn one h in
-          answers_more questions c.loop-turn.answers one.place found (search rules) (i.answers questions all)
+          answers_more questions c.loop-turn.answers one.place found (search rules) (i.answers questions all before)
           (record {
             question = one.question.now;
             there = here.there;
