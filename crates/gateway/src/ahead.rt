@@ -5,6 +5,7 @@ ghost use Rattle.gateway.specs.Groups.{packets_in};
 ghost use Rattle.gateway.specs.Inputs.{input_view};
 
 use crate::Input;
+use crate::load::Load;
 use esp::{GROUP, Precomputed, Question, precompute};
 use sadb::Table;
 use traffic::question;
@@ -20,6 +21,11 @@ impl Ahead {
         requires { length inputs.now ≤ GROUP }
         ensures { ArePrecomputed (packets_in (map input_view inputs.now)) result.values }
     {
+        if !gain_ahead(inputs, least) {
+            return Ahead {
+                values: [None; GROUP],
+            };
+        }
         Ahead {
             values: precompute(&questions_of(table, inputs), least),
         }
@@ -31,6 +37,18 @@ impl Ahead {
     {
         value_at(&self.values, place)
     }
+}
+
+/// Whether the ESP packets among some inputs gain by ICVs computed ahead, where lists begin lanes at `least`
+/// packets.
+pub fn gain_ahead(inputs: &[Input<'_>], least: usize) -> bool {
+    let mut load = Load::none();
+    for input in inputs {
+        if let Input::Esp { octets } = *input {
+            load.add(octets.len());
+        }
+    }
+    load.gains(least)
 }
 
 // What the ICVs are computed from, by the table as it is at the group's beginning.

@@ -5,6 +5,7 @@ ghost use Rattle.gateway.specs.Laying.{finished_output, finished_outputs, laid_a
 
 use crate::Output;
 use crate::ahead::value_at;
+use crate::load::Load;
 use base::Items;
 use esp::{GROUP, Precomputed, Question, precompute};
 use sadb::Table;
@@ -17,12 +18,22 @@ pub fn finish_all(table: &Table, laid: &mut [Output<'_>], least: usize)
     requires { length laid.old ≤ GROUP }
     ensures { laid.new ≡ finished_outputs table.now.pairs laid.old }
 {
-    if laid.len() < least {
-        finish_with(table, laid, &[]);
-    } else {
+    if gain_side_by_side(laid, least) {
         let ahead = precompute(&questions_of(table, laid), least);
         finish_with(table, laid, &ahead);
+    } else {
+        finish_with(table, laid, &[]);
     }
+}
+
+fn gain_side_by_side(laid: &[Output<'_>], least: usize) -> bool {
+    let mut load = Load::none();
+    for output in laid {
+        if let Output::Sealed { octets, .. } = output {
+            load.add(octets.as_slice().len());
+        }
+    }
+    load.gains(least)
 }
 
 // What the ICVs are computed from.

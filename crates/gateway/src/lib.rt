@@ -249,6 +249,7 @@ mod input;
 pub mod laws;
 mod laying;
 mod line;
+mod load;
 mod machine;
 mod output;
 mod row;

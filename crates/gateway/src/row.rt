@@ -4,6 +4,7 @@ ghost use Rattle.esp.specs.Precomputed.{ArePrecomputed, AreQuestions};
 ghost use Rattle.gateway.specs.Rows.{finished_row, octets_of, packet_in_row};
 
 use crate::ahead::value_at;
+use crate::load::Load;
 use esp::{GROUP, Precomputed, Question, precompute};
 use sadb::Table;
 
@@ -25,12 +26,20 @@ pub fn finish_row(table: &Table, spans: &[Span], packets: &mut [u8], least: usiz
     requires whole { octets_of spans.now ≤ length packets.old }
     ensures { packets.new ≡ finished_row table.now.pairs spans.now packets.old }
 {
-    if spans.len() < least {
-        finish_each(table, spans, packets, &[]);
-    } else {
+    if gain_side_by_side(spans, least) {
         let ahead = precompute(&questions_in(table, spans, packets), least);
         finish_each(table, spans, packets, &ahead);
+    } else {
+        finish_each(table, spans, packets, &[]);
     }
+}
+
+fn gain_side_by_side(spans: &[Span], least: usize) -> bool {
+    let mut load = Load::none();
+    for span in spans {
+        load.add(span.length);
+    }
+    load.gains(least)
 }
 
 // What the ICVs are computed from.

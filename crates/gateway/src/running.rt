@@ -9,6 +9,7 @@ ghost use Rattle.gateway.specs.LeavingOut.{HasOneResultWithout};
 ghost use Rattle.gateway.specs.Runs.{RunsFirst, Stops};
 ghost use Rattle.effects.specs.Taking.{meaning_of};
 
+use crate::ahead::gain_ahead;
 use crate::laws::{every_run_keeps_its_promises, what_has_no_effect_can_be_left_out};
 use crate::{Gateway, Input, Output, RunFault};
 use esp::{GROUP, Precomputed};
@@ -106,10 +107,10 @@ fn run_group<'a, C: Sealer + Agreement + Proof>(
     ensures capacity { vec_capacity outputs.old ≤ vec_capacity outputs.new }
     ensures size { vec_len outputs.new ≡ vec_len outputs.old + result }
 {
-    let ahead = if inputs.len() < gateway.lanes() {
-        None
-    } else {
+    let ahead = if gain_ahead(inputs, gateway.lanes()) {
         Some(gateway.ahead(inputs))
+    } else {
+        None
     };
     let mut start = outputs.len();
     for (done, input) in inputs.iter().enumerate() {

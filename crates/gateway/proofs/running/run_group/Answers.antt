@@ -11,7 +11,7 @@ use Rattle.gateway.specs.Runs.{Runs, StepsAs}
 use Rattle.gateway.proofs.GroupLemmas.{value_for}
 use Rattle.gateway.proofs.LayingLemmas.{finish_behind, nothing_laid}
 use Rattle.gateway.proofs.RunLemmas.{next_in_image, pushed_after, run_more, take_next_image, within_image}
-use Rattle.gateway.proofs.running.run_group.Goals.{then-inputs-lanes, else-inputs-lanes, in-Some, in-None}
+use Rattle.gateway.proofs.running.run_group.Goals.{then-gain_ahead, else-gain_ahead, in-Some, in-None}
 use Rattle.gateway.proofs.running.run_group.Goals as goal
 
 pub loop-done-init : goal.loop-done-init
@@ -28,10 +28,10 @@ loop-done-init g c = record {
 pub take_next-start-requires-clause-ahead : goal.take_next-start-requires-clause-ahead
 take_next-start-requires-clause-ahead g c =
     let inputs = map input_view c.args.inputs.now in
-    let right : IfSome c.if-inputs-lanes.ahead (λ ahead. ArePrecomputed (packets_in inputs) ahead.values) =
-    elim c.if-inputs-lanes.branch [
-      | then-inputs-lanes w ↦ rw w.ahead-is (search rules)
-      | else-inputs-lanes w ↦ rw w.ahead-is w.ahead.ensures
+    let right : IfSome c.if-gain_ahead.ahead (λ ahead. ArePrecomputed (packets_in inputs) ahead.values) =
+    elim c.if-gain_ahead.branch [
+      | then-gain_ahead w ↦ rw w.ahead-is w.ahead.ensures
+      | else-gain_ahead w ↦ rw w.ahead-is (search rules)
     ]
     in
     elim c.match-ahead.branch [
