@@ -15,6 +15,9 @@ ROOT = pathlib.Path(__file__).resolve().parent.parent
 CRATE = ROOT / "crates" / "tool_times"
 HEADER = pathlib.Path("/usr/include/intel-ipsec-mb.h")
 
+# How many times both are run in turn: of seven the median is off by several hundredths from one time to the next.
+TURNS = 41
+
 # Seven packets of 40 octets, four of 576 and one of 1,400 in twelve.
 IMIX = [40, 576, 40, 40, 576, 40, 1400, 40, 576, 40, 576, 40]
 
@@ -51,7 +54,7 @@ def main():
             found = []
             for task, limit in zip(("seal_all", "open_all"), least):
                 turns = []
-                for _ in range(7):
+                for _ in range(TURNS):
                     ours, our_last = run(own, task, count, sizes, 2)
                     theirs, their_last = run(other, task, count, sizes)
                     turns.append(theirs / ours)

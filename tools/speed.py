@@ -14,6 +14,9 @@ CRATES = pathlib.Path(__file__).resolve().parent.parent / "crates"
 TARGETS = {"default": [], "x86-64-v3": ["--cpu=x86-64-v3"]}
 LANES = {"default": 6, "x86-64-v3": 2} # from how many packets on lists begin lanes, as libsukperin has it
 
+# How many times both ways are run in turn.
+TURNS = 15
+
 # The count of packets and the sizes of their payloads, in turn.
 LISTS = [
     (64, [1400]),
@@ -33,7 +36,15 @@ LEAST = {(64, (1400,)): 4.0, (64, (64, 576, 1400)): 3.5}
 LOSS = 0.95
 
 # The same of lists through a gateway: how many packets of how many octets, and how many times as fast they come in and go out at x86-64-v3.
-LEAST_RUNS = {(64, 1400): (4.0, 2.8), (64, 64): (2.5, 2.5), (8, 1400): (LOSS, LOSS), (1, 1400): (LOSS, LOSS)}
+LEAST_RUNS = {
+    (64, 1400): (4.0, 2.8),
+    (64, 64): (2.5, 2.5),
+    (8, 1400): (LOSS, LOSS),
+    (4, 64): (LOSS, LOSS),
+    (2, 1400): (LOSS, LOSS),
+    (2, 64): (LOSS, LOSS),
+    (1, 1400): (LOSS, LOSS),
+}
 
 
 def built(folder, crate, target, flags, words):
@@ -52,8 +63,8 @@ def nanoseconds(program, task, lanes, count, sizes):
 
 
 def ratio(program, task, lanes, count, sizes):
-    """How many times as fast a call for the list is, the median of five."""
-    turns = [nanoseconds(program, task, lanes, count, sizes) / nanoseconds(program, f"{task}_all", lanes, count, sizes) for _ in range(5)]
+    """How many times as fast a call for the list is, the median of TURNS."""
+    turns = [nanoseconds(program, task, lanes, count, sizes) / nanoseconds(program, f"{task}_all", lanes, count, sizes) for _ in range(TURNS)]
     return statistics.median(turns)
 
 
