@@ -4,7 +4,7 @@ use Rattle.std.specs.Int.{bit_at, w64}
 use Rattle.std.specs.Int.RustNames.{bit_or}
 use Rattle.std.specs.List.{list_any, slice_set}
 use Rattle.std.specs.FinSet as set
-use Rattle.std.proofs.Common.{arith, sym, ◌∙◌, ap, inl, inr, eq-eqb, ◌⊎◌}
+use Rattle.std.proofs.Common.{arith, sym, ◌∙◌, ap, inl, inr, eq-eqb, ◌⊎◌, subst}
 use Rattle.std.proofs.lemmas.Bool.Decides.{nat_tests, leb_tells, eqb_tells}
 use Rattle.std.proofs.lemmas.Map.Views.{any-filter_same}
 use Rattle.std.proofs.lemmas.Nat.{div-add-mod', mod_below}
@@ -14,7 +14,7 @@ use Rattle.std.proofs.lemmas.Grind.{get_or-set_at}
 use Rattle.replay.specs.declared.window.Judgement.TheVariants.{Taken, Fresh}
 use Rattle.replay.specs.Window.{IsSoundWindow, Takes, judgement, unused_window}
 use Rattle.replay.proofs.WindowFacts.{IsFresh}
-use Rattle.replay.specs.Blocks.{IsRing, is_marked, is_twin, last_numbers, shown, span_of, place_of}
+use Rattle.replay.specs.Blocks.{IsRing, is_power, is_marked, is_twin, last_numbers, shown, span_of, place_of}
 use Rattle.replay.proofs.JudgementLemmas.{judged_in_span}
 
 -- ---- places in the ring
@@ -169,10 +169,11 @@ not_marked blocks q empty = ap (λ b. nat_eq (bit_at b (q % 64)) 1) empty ∙ ap
 pub zeros_unmarked : (m q : ℕ) → is_marked (replicate m 0) q ≡ false
 zeros_unmarked m q = not_marked (replicate m 0) q (get_or_zeros m (place_of (replicate m 0) q))
 
-pub ring_start : (m : ℕ) → 2 ≤ m → m ≤ 128 → IsRing 0 (replicate m 0)
-ring_start m least most =
+pub ring_start : (m : ℕ) → is_power m ≡ true → 2 ≤ m → m ≤ 128 → IsRing 0 (replicate m 0)
+ring_start m power least most =
     let e : length (replicate m zero) ≡ m = length-replicate m 0 in
     record {
+      power = subst (λ (m : ℕ). is_power m ≡ true) (sym e) power;
       least = omega arith;
       most = omega arith;
       fits = omega arith;
@@ -264,6 +265,7 @@ ring_inside top n old new ring below in_span is =
     let m_most = ring.most in
     let count = is.count in
     record {
+      power = subst (λ (m : ℕ). is_power m ≡ true) (sym is.count) ring.power;
       least = omega arith;
       most = omega arith;
       fits = ring.fits;
@@ -362,6 +364,7 @@ ring_above top n old cleared new ring above fits is_cleared is =
     let count = is.count in
     let cleared_count = is_cleared.count in
     record {
+      power = subst (λ (m : ℕ). is_power m ≡ true) (sym (is.count ∙ is_cleared.count)) ring.power;
       least = omega arith;
       most = omega arith;
       fits = fits;

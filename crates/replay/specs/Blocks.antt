@@ -1,6 +1,6 @@
 -- The sequence numbers taken, kept as a ring of blocks of 64 bits (RFC 6479 section 2): number n stands in
 -- block n / 64, counted round the ring.
-use Rattle.std.specs.Prelude.{◌≡◌, ℕ, ◌*◌, ◌-◌, ◌/◌, ◌%◌, ◌^◌, ◌<◌, ◌≤◌, Bool, true, false, List, [], ◌∷◌, length, get_or, filter, ◌&&◌, nat_eq, zero, suc}
+use Rattle.std.specs.Prelude.{◌≡◌, ℕ, ◌*◌, ◌-◌, ◌/◌, ◌%◌, ◌^◌, ◌<◌, ◌≤◌, Bool, true, false, List, [], ◌∷◌, length, get_or, filter, ◌&&◌, ◌||◌, nat_eq, zero, suc}
 use Rattle.std.specs.Int.{bit_at}
 use Rattle.replay.specs.Window.{Seen, listed}
 
@@ -31,8 +31,13 @@ span_of blocks = 64 * (length blocks - 1)
 abbrev pub shown : ℕ → List ℕ → Seen
 shown top blocks = listed top (span_of blocks) (filter (is_marked blocks) (last_numbers (span_of blocks) top))
 
+-- a power of two from 2 to 128
+unfoldable pub is_power : ℕ → Bool
+is_power m = nat_eq m 2 || (nat_eq m 4 || (nat_eq m 8 || (nat_eq m 16 || (nat_eq m 32 || (nat_eq m 64 || nat_eq m 128)))))
+
 -- what holds of every ring
 pub record IsRing (top : ℕ) (blocks : List ℕ) : Type 0 where
+  pub power : is_power (length blocks) ≡ true
   pub least : 2 ≤ length blocks
   pub most : length blocks ≤ 128
   pub fits : top < 2 ^ 64

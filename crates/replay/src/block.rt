@@ -70,17 +70,18 @@ impl Window for BlockWindow {
     ghost sound = { λ w. w.sound };
 }
 
-// The place in the ring of the block that counts as the `block`th from the start.
+// The place in the ring of the block that counts as the `block`th from the start. The blocks are a power of
+// two, so no division is needed, which would take as long as the rest.
 fn place(blocks: &[u64], block: u64) -> usize
-    requires { 1 ≤ length blocks.now }
+    requires { IsBlockCount (length blocks.now) }
     ensures { result ≡ block % length blocks.now }
 {
-    (block % blocks.len() as u64) as usize
+    (block & (blocks.len() as u64 - 1)) as usize
 }
 
 // Whether the bit of a sequence number is set.
 fn is_set(blocks: &[u64], n: u64) -> bool
-    requires { 1 ≤ length blocks.now }
+    requires { IsBlockCount (length blocks.now) }
     ensures { result ≡ is_marked blocks.now n }
 {
     (blocks[place(blocks, n / BLOCK)] >> (n % BLOCK)) & 1 == 1
@@ -102,7 +103,7 @@ fn mark(blocks: &mut [u64], top: u64, n: u64)
 
 // Sets the bit of a sequence number.
 fn set_bit(blocks: &mut [u64], n: u64)
-    requires { 1 ≤ length blocks.old }
+    requires { IsBlockCount (length blocks.old) }
     ensures length { length blocks.new ≡ length blocks.old }
     ensures marked { (q : ℕ)
         → is_marked blocks.new q ≡ (is_twin (length blocks.old) n q || is_marked blocks.old q) }
@@ -113,7 +114,7 @@ fn set_bit(blocks: &mut [u64], n: u64)
 
 // Clears the blocks behind `from`, up to `to`: all of the ring where they go round it.
 fn clear_passed(blocks: &mut [u64], from: u64, to: u64)
-    requires some_blocks { 1 ≤ length blocks.old }
+    requires count { IsBlockCount (length blocks.old) }
     requires upwards { from ≤ to }
     ensures length { length blocks.new ≡ length blocks.old }
     ensures cleared { (block : ℕ) → from < block → block ≤ to

@@ -1,8 +1,21 @@
-use Rattle.std.proofs.Common.{◌≡◌, ◌/◌, max, arith}
+use Rattle.std.proofs.Common.{◌≡◌, ◌/◌, length, max, arith, sym, subst}
+use Rattle.replay.specs.Window.{IsBlockCount}
+use Rattle.replay.proofs.BlockCountLemmas.{power_count}
 use Rattle.replay.proofs.WindowFacts.{fresh}
 use Rattle.replay.proofs.BlockLemmas.{IsSet, IsCleared, ring_inside, ring_above, takes_bit_inside, takes_bit_above}
 use Rattle.replay.proofs.block.mark.Goals as goal
 use Rattle.replay.proofs.block.mark.Goals.{then-n-top, else-n-top}
+
+pub clear_passed-requires-clause-count : goal.clear_passed-requires-clause-count
+clear_passed-requires-clause-count c = power_count _ c.requires.ring.power
+
+pub set_bit-requires : goal.set_bit-requires
+set_bit-requires c =
+    let count : IsBlockCount (length c.args.blocks.now) = power_count _ c.requires.ring.power in
+    elim c.if-n-top.branch [
+      | then-n-top w ↦ rw w.blocks-is (subst IsBlockCount (sym w.clear_passed.ensures.length) count)
+      | else-n-top w ↦ rw w.blocks-is count
+    ]
 
 pub returns-clause-ring : goal.returns-clause-ring
 returns-clause-ring c =

@@ -1,9 +1,14 @@
-use Rattle.std.proofs.Common.{◌+◌, ◌<◌, sym, ◌∙◌, ap, arith}
+use Rattle.std.proofs.Common.{◌+◌, ◌<◌, length, sym, ◌∙◌, ap, subst, arith}
 use Rattle.std.specs.Prelude.{if◌then◌else◌}
 use Rattle.replay.specs.declared.window.Judgement.TheVariants.{Taken, Fresh}
 use Rattle.replay.specs.Blocks.{is_marked, span_of}
+use Rattle.replay.specs.Window.{IsBlockCount}
+use Rattle.replay.proofs.BlockCountLemmas.{power_count}
 use Rattle.replay.proofs.BlockLemmas.{judged_by_bit}
 use Rattle.replay.proofs.block.BlockWindowWindow.judge.Goals as goal
+
+pub is_set-requires : goal.is_set-requires
+is_set-requires c = subst IsBlockCount (ap length (sym c.deref.ensures.value)) (power_count _ c.args.self.now.ring.power)
 
 pub returns-then-is_set : goal.returns-then-is_set
 returns-then-is_set c =
