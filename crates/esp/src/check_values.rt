@@ -12,8 +12,8 @@ use lanes::{Task, icv_all};
 /// How many ICVs are computed at once.
 pub const GROUP: usize = 64;
 
-/// How many packets a short list has, so many as there are lanes. Its arrays of tasks and of answers are as
-/// short: to fill longer ones would take some hundredths of its time.
+/// How many packets a short list has, so many as there are lanes. Its array of tasks is as short, and where
+/// one SA opens it all its arrays are: to fill longer ones would take up to a tenth of its time.
 pub const FEW: usize = 8;
 
 /// Writes the ICVs of packets that lie one after the other and carry these payloads, with the sequence
@@ -90,7 +90,7 @@ fn compute_few<'a>(
     icv_all(&tasks[..payloads.len()], values, messages_least(least));
 }
 
-// The same of another. Not inlined, so that a short list doesn't clear its array.
+// The same of a longer list. Not inlined, so that a short list doesn't clear its array.
 #[inline(never)]
 fn compute_group<'a>(
     association: &'a Sa,

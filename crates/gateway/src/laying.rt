@@ -11,9 +11,8 @@ use esp::{GROUP, Precomputed, Question, precompute};
 use sadb::Table;
 use std::mem;
 
-/// Writes the ICV into each ESP packet of these outputs: computed side by side where that is faster, from
-/// `least` packets of one length on, else one by one. A list of one output, as most are, needs none of the
-/// arrays.
+/// Writes the ICV into each ESP packet of these outputs: computed side by side where that is faster
+/// (`Load::gains`), else one by one, which needs none of the arrays.
 pub fn finish_all(table: &Table, laid: &mut [Output<'_>], least: usize)
     requires { length laid.old ≤ GROUP }
     ensures { laid.new ≡ finished_outputs table.now.pairs laid.old }

@@ -237,9 +237,9 @@
 //! events both parties stay sound (`SoundWorldLemmas`). Windows, Child SAs and pairs have invariants of their
 //! own, kept event by event (`WindowWorldLemmas`, `ChildLemmas`, `PairLemmas`). `CarryLemmas` joins these,
 //! with `MirrorLemmas` and what [`traffic`] says of mirrored pairs. `World` reserves all memory before a
-//! step (`FittingLemmas`), so nothing that was sent is lost. That what goes up had been sealed before it came
-//! is the promise of the list up to that step (`OriginLemmas`). The files `Worked..` show that the
-//! assumptions can be met.
+//! step that may send (`FittingLemmas`), so nothing that was sent is lost; of the others there is nothing to
+//! store (`StoringLemmas`). That what goes up had been sealed before it came is the promise of the list up to
+//! that step (`OriginLemmas`). The files `Worked..` show that the assumptions can be met.
 #![tactic(auto)]
 
 mod ahead;

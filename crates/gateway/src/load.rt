@@ -2,8 +2,8 @@
 
 use esp::PACKETS_LEAST;
 
-// The arrays for a group's ICVs take as long as so many blocks of SHA-256 of a message alone.
-const ARRAY_BLOCKS: usize = 6;
+// To clear the arrays for a group's ICVs takes as long as so many blocks of SHA-256, or somewhat less.
+const ARRAY_BLOCKS: usize = 8;
 
 /// What the ICVs of some packets take, in blocks of SHA-256.
 #[derive(Clone, Copy)]
@@ -32,8 +32,8 @@ impl Load {
         self.most = blocks.max(self.most);
     }
 
-    /// Whether the arrays of a group are worth their time, where lists begin lanes at `least` packets. A few
-    /// short packets take less time one by one.
+    /// Whether the arrays of a group may be worth their time, where lists begin lanes at `least` packets. From
+    /// six packets on `esp` alone judges. Two take less time one by one, and so do three to five short ones.
     pub fn gains(&self, least: usize) -> bool {
         self.packets >= least
             && (self.packets >= PACKETS_LEAST

@@ -93,8 +93,9 @@ impl<C> Gateway<C> {
         }
     }
 
-    /// Has lists of so many packets or more have their ICVs computed side by side, where they are alike: 2 is
-    /// right in a build for x86-64-v3. Without it lists begin at [`PACKETS_LEAST`](esp::PACKETS_LEAST), which
+    /// Has lists of so many packets or more have their ICVs computed side by side, where they are alike, and
+    /// of fewer than six where these are long enough to be worth a group's arrays. 2 is right in a build for
+    /// x86-64-v3. Without it lists begin at [`PACKETS_LEAST`](esp::PACKETS_LEAST), which
     /// is right for x86-64-v2. Time alone depends on it.
     pub fn begin_lanes_at(&mut self, packets: usize)
         ensures { self.new ≡ self.old }

@@ -20,7 +20,7 @@ pub struct Span {
 }
 
 /// Writes the ICV into each of the ESP packets that stand one behind the other from the buffer's beginning:
-/// computed side by side where that is faster, from `least` packets of one length on, else one by one.
+/// computed side by side where that is faster (`Load::gains`), else one by one.
 pub fn finish_row(table: &Table, spans: &[Span], packets: &mut [u8], least: usize)
     requires few { length spans.now ≤ GROUP }
     requires whole { octets_of spans.now ≤ length packets.old }
@@ -37,7 +37,9 @@ pub fn finish_row(table: &Table, spans: &[Span], packets: &mut [u8], least: usiz
 fn gain_side_by_side(spans: &[Span], least: usize) -> bool {
     let mut load = Load::none();
     for span in spans {
-        load.add(span.length);
+        if span.length > 0 {
+            load.add(span.length);
+        }
     }
     load.gains(least)
 }

@@ -70,8 +70,8 @@ impl Window for BlockWindow {
     ghost sound = { λ w. w.sound };
 }
 
-// The place in the ring of the block that counts as the `block`th from the start. The blocks are a power of
-// two, so no division is needed, which would take as long as the rest.
+// The place in the ring of the block that counts as the `block`th from the start. Their count is a power of
+// two, so a mask does instead of a division, which would take longer than all else here.
 fn place(blocks: &[u64], block: u64) -> usize
     requires { IsBlockCount (length blocks.now) }
     ensures { result ≡ block % length blocks.now }
