@@ -38,12 +38,14 @@ pub(crate) fn ch(x: u32x8, y: u32x8, z: u32x8) -> u32x8
     (x & y) ^ (!x & z)
 }
 
+// `y ^ z` of a round is `x ^ y` of the round before it: where the compiler keeps that, a round takes three
+// operations. The form of FIPS 180-4 takes four.
 #[inline(always)]
 pub(crate) fn maj(x: u32x8, y: u32x8, z: u32x8) -> u32x8
     ensures { (j : ℕ) → IsLane j
         → slice_index result j ≡ maj (slice_index x j) (slice_index y j) (slice_index z j) }
 {
-    (x & y) ^ (x & z) ^ (y & z)
+    y ^ ((x ^ y) & (y ^ z))
 }
 
 // Each word turned by some bits to the right.
