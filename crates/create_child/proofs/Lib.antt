@@ -1,3 +1,4 @@
 mod TableLemmas
 mod CountingLemmas
+mod ConcludingLemmas
 mod AskingLemmas

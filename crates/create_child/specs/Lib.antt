@@ -2,3 +2,4 @@ pub mod Asking
 pub mod Readying
 pub mod Answering
 pub mod Counting
+pub mod Concluding

@@ -1,9 +1,10 @@
 //! What an initiator makes of the answer to its request for an additional Child SA.
-ghost use Rattle.std.specs.Prelude.{◌≡◌, ◌≢◌, Some, IfErr, IfOk};
+ghost use Rattle.std.specs.Prelude.{◌≡◌, Some, IfErr, IfOk, IsOk};
 ghost use Rattle.replay.specs.Window.{IsBlockCount};
 ghost use Rattle.exchange.specs.Chains.{TellsError};
-ghost use Rattle.children.specs.declared.fault.MemoryFault.TheVariants.{Table};
+ghost use Rattle.children.specs.Faults.{IsWantOfPair};
 ghost use Rattle.further.specs.Concluding.{Concludes, IsConclusion, KeepsTo};
+ghost use Rattle.create_child.specs.Concluding.{CanWantForAnswer, IsConcludedAtOnce};
 
 use children::laws::what_is_accepted_was_asked;
 use children::{Asked, MemoryFault, Setting, accept};
@@ -39,7 +40,7 @@ pub struct Concluded {
 /// By rules of this implementation any other Notify payload brings about nothing, and a critical payload that
 /// is not known is passed over, against section 2.5. The first error notification is told beside the
 /// conclusion, whatever that is. The only error is an allocation failure, for the message or the pair and not
-/// for its place in the table.
+/// for its place in the table. None comes for the pair where the payloads make no Child SA.
 pub fn conclude_response(
     alloc: Global,
     plain: &Plain,
@@ -54,7 +55,7 @@ pub fn conclude_response(
         (λ said. Concludes blocks ike keys.now asked.now own_nonce.now plain.now said.conclusion) }
     ensures told { IfOk result (λ said. TellsError plain.now said.error) }
     ensures keeps { IfOk result (λ said. KeepsTo asked.now said.conclusion) }
-    ensures wanted { IfErr result (λ fault. fault ≢ Table) }
+    ensures wanted { IfErr result (CanWantForAnswer asked.now plain.now) }
 {
     match read_chain(alloc, plain)? {
         None => Ok(Concluded {
@@ -86,7 +87,8 @@ fn conclude_on(
     ensures concluded { IfOk result
         (IsConclusion blocks ike keys.now asked.now own_nonce.now (Some answer.now)) }
     ensures keeps { IfOk result (KeepsTo asked.now) }
-    ensures wanted { IfErr result (λ fault. fault ≢ Table) }
+    ensures wanted { IfErr result IsWantOfPair }
+    ensures early { IsConcludedAtOnce asked.now answer.now → IsOk result }
 {
     what_is_accepted_was_asked();
     if has_invalid_syntax(answer) {

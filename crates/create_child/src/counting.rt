@@ -1,11 +1,11 @@
 //! The response to a request of this end for an additional Child SA.
-ghost use Rattle.std.specs.Prelude.{◌≡◌, ◌≢◌, IfOk, IfErr};
+ghost use Rattle.std.specs.Prelude.{◌≡◌, IfOk, IfErr};
 ghost use Rattle.sadb.specs.Database.{IsReserved};
 ghost use Rattle.association.specs.Closing.{HoldsReserved, HoldsSpi};
-ghost use Rattle.children.specs.declared.fault.MemoryFault.TheVariants as child;
 ghost use Rattle.setup.specs.Configs.{setup_of};
 ghost use Rattle.association.specs.Purposes.{SeeksAt};
 ghost use Rattle.association.specs.declared.purpose.Sought.TheVariants as sought;
+ghost use Rattle.create_child.specs.Concluding.{CanWantForAnswer};
 ghost use Rattle.create_child.specs.Counting.{CountsWhereAwaited, EndsFurther, HasItsSpi};
 
 use crate::concluding::{Concluded, conclude_response};
@@ -26,8 +26,8 @@ use std::alloc::Global;
 ///
 /// The caller gives what the outstanding request with this Message ID asked for, and its nonce, and asks only
 /// where the SPIs that the IKE SA holds are reserved in the table. The only error is an allocation failure,
-/// for the message or the SA pair: its place in the table stands since its SPI was reserved. It changes
-/// nothing.
+/// for the message, or for the SA pair where the answer can make one: its place in the table stands since its
+/// SPI was reserved. It changes nothing.
 pub fn count<C>(
     alloc: Global,
     setup: &Setup<'_, C>,
@@ -43,7 +43,7 @@ pub fn count<C>(
     ensures counted { IfOk result (λ ended. CountsWhereAwaited (setup_of setup.now)
         association.old table.old number plain.now ended association.new table.new) }
     ensures refused { IfErr result (λ _. (association.new ≡ association.old) × (table.new ≡ table.old)) }
-    ensures wanted { IfErr result (λ fault. fault ≢ child.Table) }
+    ensures wanted { IfErr result (CanWantForAnswer asked.now plain.now) }
 {
     let Phase::Established(keys) = &association.phase else {
         return Ok(None);

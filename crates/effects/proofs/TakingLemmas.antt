@@ -25,6 +25,7 @@ use Rattle.children.specs.declared.asking.Asked.{Asked}
 use Rattle.setup.specs.Configs.{Setup}
 use Rattle.initial.specs.Ending.{EndsWhereSent, IsAuthSent}
 use Rattle.informational.specs.Counting.{CountsWhereEstablished}
+use Rattle.create_child.specs.Concluding.{CanWantForAnswer}
 use Rattle.create_child.specs.Counting.{CountsWhereAwaited}
 use Rattle.effects.specs.Taking.{asked_further, counted_by, has_asked, CanWantIn, DoesAnswer, DoesResponse, Meaning}
 use Rattle.effects.specs.Waiting.{IsAskedLater, MayBeOutstanding, SuitPhase}
@@ -145,6 +146,13 @@ auth_wants old m d f due waits auth other =
       awaited = sent_since old.phase m.header.id due.request.purpose (waits m.header.id due.request due.outstanding) (awaited_exchange old m due ∙ auth);
       exchange_is = auth;
     })) other
+
+-- what there may be no memory for as an answer is concluded on is no place in the table
+pub no_place : (asked : Asked) (plain : Plain) (f : MemoryFault) → CanWantForAnswer asked plain f → f ≢ child.Table
+no_place asked plain child.Message wants same = absurd (cc)
+no_place asked plain child.Window wants same = absurd (cc)
+no_place asked plain child.Narrowing wants same = absurd (cc)
+no_place asked plain child.Table wants same = absurd wants
 
 pub further_wants : (old : Association) (m : Message) (d : Database) (f : MemoryFault) → IsAwaited old m → SuitPhase old.phase old.outgoing.outstanding → m.header.exchange ≡ CREATE_CHILD_SA → f ≢ child.Table
     → CanWantIn old.phase true m.header.exchange d f

@@ -14,6 +14,7 @@ use Rattle.sadb.specs.Database.{Database, IsTableRefusal}
 use Rattle.sadb.specs.declared.fault.TableFault.TheVariants as table
 use Rattle.children.specs.declared.fault.MemoryFault.{MemoryFault}
 use Rattle.children.specs.declared.fault.MemoryFault.TheVariants as child
+use Rattle.association.specs.Finding.{is_waiting}
 use Rattle.association.specs.Purposes.{asks_for_child}
 use Rattle.association.specs.Receiving.{Answers, AnswersInitial, IsAnswering, IsEffective, IsReceived, Opening, Reception, Refused, Repeat, TakesEffect}
 use Rattle.association.specs.declared.fault.MessageFault.TheVariants.{WrongPhase}
@@ -27,7 +28,7 @@ use Rattle.auth.specs.Proofs.{Accepts}
 use Rattle.initial.specs.Answering.{AnswersAuth, IsHalfOpen, Prover}
 use Rattle.setup.specs.Configs.{Setup}
 use Rattle.initial.specs.Ending.{EndsAuth, IsAuthSent}
-use Rattle.initial.specs.Reading.{Asker, IsInitSent, ReadsResponse}
+use Rattle.initial.specs.Reading.{Asker, IsInitSent, IsUnfitAtOnce, ReadsResponse}
 use Rattle.informational.specs.Answering.{AnswersInformational}
 use Rattle.informational.specs.Counting.{CountsInformational}
 use Rattle.association.specs.Phases.{IsEstablished}
@@ -128,6 +129,11 @@ CanWant plain_of a d octets m f = (f ≡ child.Message) ⊎ (CanMakeChild plain_
 -- the same, by the phase and the exchange alone; only private contracts cite this
 abbrev pub CanWantIn : Phase → Bool → ℕ → Database → MemoryFault → Type 0
 CanWantIn p response exchange d f = (f ≡ child.Message) ⊎ (IsForChild p response exchange × CanTakeOf response d f)
+
+-- this end waits for the response to IKE_SA_INIT, and the message is none that fits, by what it says
+pub record IsUnfitInitial (cipher : Cipher) (group : ℕ) (a : Association) (m : Message) : Type 0 where
+  pub waiting : is_waiting a.phase ≡ true
+  pub unfit : IsUnfitAtOnce cipher group a m
 
 -- What a request of these payloads does at an established IKE SA: that of INFORMATIONAL, or else of
 -- CREATE_CHILD_SA, since no other belongs there.

@@ -1,5 +1,5 @@
 //! What a message does to its IKE SA.
-ghost use Rattle.std.specs.Prelude.{◌≡◌, true, false, IfOk, IfErr};
+ghost use Rattle.std.specs.Prelude.{◌≡◌, true, false, IfOk, IfErr, IsOk};
 ghost use Rattle.wire.specs.Messages.{Spells};
 ghost use Rattle.requests.specs.Incoming.{IsFreshRequest};
 ghost use Rattle.sadb.specs.Database.{IsAsBefore};
@@ -7,8 +7,9 @@ ghost use Rattle.association.specs.Closing.{HoldsReserved};
 ghost use Rattle.association.specs.Purposes.{SeeksAt};
 ghost use Rattle.association.specs.Receiving.{admits, IsAnsweringInitial, IsAwaited};
 ghost use Rattle.setup.specs.Configs.{setup_of};
+ghost use Rattle.initial.specs.Reading.{IsUnfitAtOnce};
 ghost use Rattle.effects.specs.Waiting.{SuitPhase};
-ghost use Rattle.effects.specs.Taking.{counted_by, meaning_of, replied_by, CanWant, CanWantIn, DoesInitial, DoesRequest, DoesResponse, TakesMessage};
+ghost use Rattle.effects.specs.Taking.{counted_by, meaning_of, replied_by, CanWant, CanWantIn, DoesInitial, DoesRequest, DoesResponse, IsUnfitInitial, TakesMessage};
 
 use association::laws::receptions_say_why;
 use association::{Answered, Association, Ended, MessageFault, Received, Sought, receive};
@@ -53,8 +54,10 @@ pub enum Effect {
 ///
 /// The only error is an allocation failure, and it changes nothing but the table's spare capacity. It is
 /// [`MemoryFault::Message`], or one of the other three where the message is processed or matched and IKE_AUTH
-/// or CREATE_CHILD_SA makes a child. [`MemoryFault::Table`] comes only at the end that answers, of a table
-/// without a spare place that could take more SA pairs.
+/// or CREATE_CHILD_SA may make a child. [`MemoryFault::Table`] comes only at the end that answers, of a table
+/// without a spare place that could take more SA pairs. While this end waits for the response to IKE_SA_INIT,
+/// there is none for a message that asks for no cookie that is to be brought, and doesn't accept what was
+/// offered.
 pub fn take_message<C: Sealer + Agreement + Proof>(
     alloc: Global,
     setup: &Setup<'_, C>,
@@ -73,6 +76,7 @@ pub fn take_message<C: Sealer + Agreement + Proof>(
     ensures refused { IfErr result
         (λ _. (association.new ≡ association.old) × IsAsBefore table.old table.new) }
     ensures wanted { IfErr result (CanWant C.plain_of association.old table.old octets.now message.now) }
+    ensures early { IsUnfitInitial C.cipher C.group_number association.old message.now → IsOk result }
 {
     receptions_say_why();
     match receive(alloc, setup.caller, association, octets, message)? {
@@ -113,6 +117,7 @@ fn take_initial<C: Sealer + Agreement + Proof>(
         (meaning_of C.Sealer C.Agreement C.Proof setup.now.caller.now)
         (setup_of setup.now) association.old octets.now message.now effect association.new) }
     ensures refused { IfErr result (λ _. association.new ≡ association.old) }
+    ensures early { IsUnfitAtOnce C.cipher C.group_number association.old message.now → IsOk result }
 {
     match read_response(
         alloc,

@@ -1,5 +1,5 @@
 -- What a memory holds, by the notes at its places.
-use Rattle.std.proofs.Common.{◌≡◌, ◌⊎◌, ◌+◌, ◌<◌, ◌≤◌, ◌∙◌, ℕ, Bool, true, false, cond, List, Option, Some, None, inl, inr, refl, sym, ap, subst, arith, length, get_or, get_or-set_same, get_or-set_other, length-set, nat_eq}
+use Rattle.std.proofs.Common.{◌≡◌, ◌⊎◌, ◌+◌, ◌<◌, ◌∙◌, ℕ, Bool, true, false, cond, List, Option, Some, None, inl, inr, refl, sym, ap, subst, arith, length, get_or, get_or-set_same, get_or-set_other, length-set, nat_eq}
 use Rattle.std.proofs.Math.ListN.{set}
 use Rattle.std.specs.Prelude.{map, slice_get}
 use Rattle.std.specs.Option.{option_map}
@@ -119,11 +119,11 @@ made_empty made count old new is = λ place note there.
       | inr nothing ↦ absurd (omega arith)
     ])
 
-pub made_kept : (epoch : ℕ) (made : Bool) (count : ℕ) (old new : List (Option Note)) → 4096 ≤ count → IsMade made count old new → IsKept epoch old → IsKept epoch new
-made_kept epoch made count old new enough is kept =
+pub made_kept : (epoch : ℕ) (made : Bool) (count : ℕ) (old new : List (Option Note)) → count ≡ 4096 → IsMade made count old new → IsKept epoch old → IsKept epoch new
+made_kept epoch made count old new all is kept =
     record {
       past = λ place note there. kept.past place note (made_empty made count old new is place note there);
-      whole = λ some. elim (all_or_none made count old new is) [ inl all ↦ (let count_is = all.0 in omega arith) | inr nothing ↦ omega arith ];
+      whole = λ some. elim (all_or_none made count old new is) [ inl made_all ↦ made_all.0 ∙ all | inr nothing ↦ absurd (omega arith) ];
     }
 
 -- ---- noting

@@ -33,6 +33,16 @@ pub record Remembers (pairs : PairMap) (memory : List (Option Answer)) (flow : F
 abbrev pub AllRight : List Entry → PairMap → List (Option Answer) → Type 0
 AllRight policy pairs memory = (flow : Flow) (treatment : Treatment) → Remembers pairs memory flow treatment → IsTreatment policy pairs flow treatment
 
+-- the memory has its 4096 places, or none
+abbrev pub HasItsPlaces : List (Option Answer) → Type 0
+HasItsPlaces memory = 0 < length memory → length memory ≡ 4096
+
+-- what a look-up would find of the flow is held
+pub record HoldsTreatmentOf (policy : List Entry) (pairs : PairMap) (memory : List (Option Answer)) (flow : Flow) : Type 0 where
+  pub treatment : Treatment
+  pub found : IsTreatment policy pairs flow treatment
+  pub held : Holds memory (record { flow = flow; treatment = treatment })
+
 -- How the answers are kept. No public clause speaks of this.
 
 -- the answer of a note that was made since the memory last forgot
@@ -43,4 +53,4 @@ answer_in epoch (Some note) = if note.epoch == epoch then Some note.answer else 
 -- no note is of a later time, and all places are there or none
 pub record IsKept (epoch : ℕ) (places : List (Option Note)) : Type 0 where
   pub past : (place : ℕ) (note : Note) → slice_get places place ≡ Some (Some note) → note.epoch ≤ epoch
-  pub whole : 0 < length places → 4096 ≤ length places
+  pub whole : 0 < length places → length places ≡ 4096

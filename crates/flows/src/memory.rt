@@ -1,6 +1,6 @@
 //! A memory of what is done with flows.
-ghost use Rattle.std.specs.Prelude.{◌≡◌, ◌<◌, ◌≤◌, IfSome, IsTrue, ◌↔◌, length};
-ghost use Rattle.flows.specs.Memory.{AllRight, Holds, HoldsNone, HoldsNoMore, Notes};
+ghost use Rattle.std.specs.Prelude.{◌≡◌, ◌<◌, IfSome, IsTrue, ◌↔◌, length};
+ghost use Rattle.flows.specs.Memory.{AllRight, HasItsPlaces, Holds, HoldsNone, HoldsNoMore, Notes};
 ghost use Rattle.flows.specs.Treatments.{IsTreatment};
 
 use crate::place::{PLACES, place_of};
@@ -59,6 +59,14 @@ impl FlowMemory {
         }
     }
 
+    /// The invariant of every memory, as a function that does nothing: it has its 4096 places, or none.
+    pub fn invariants_hold(&self)
+        ensures { HasItsPlaces self.now }
+    {
+        // Opens the model, so that its invariant is known here.
+        let _ = &self.places;
+    }
+
     /// Forgets all, at the same cost however much it was.
     pub fn forget(&mut self)
         ensures { HoldsNone self.new }
@@ -112,7 +120,7 @@ impl FlowMemory {
     // Makes the places, where there are none and there is memory for them.
     fn make_places(&mut self)
         ensures no_more { HoldsNoMore self.old self.new }
-        ensures made { 0 < length self.new → 4096 ≤ length self.new }
+        ensures made { HasItsPlaces self.new }
     {
         if self.places.is_empty() {
             let _ = self.places.resize(PLACES, None);

@@ -16,7 +16,11 @@ use Rattle.requests.specs.Incoming.{PeerRequests}
 use Rattle.association.specs.Finding.{place_meant, sent_by_other}
 use Rattle.association.specs.Receiving.{IsRepeating}
 use Rattle.association.specs.declared.fault.MessageFault.{MessageFault}
+use Rattle.association.specs.Phases.{IsEstablished}
 use Rattle.association.specs.declared.phase.Association.{Association}
+use Rattle.association.specs.declared.phase.Phase.{Phase}
+use Rattle.association.specs.declared.phase.Phase.TheVariants as phase
+use Rattle.suite.specs.declared.key_record.KeyRecord.{KeyRecord}
 use Rattle.setup.specs.Configs.{Setup}
 use Rattle.association.specs.declared.outcome.Answered as answering
 use Rattle.moments.specs.Due.{held_of, is_over}
@@ -24,7 +28,7 @@ use Rattle.moments.specs.Held as moments
 use Rattle.moments.specs.Ticking.{Ticks}
 use Rattle.moments.specs.declared.ticking.Ticked.{Ticked}
 use Rattle.effects.specs.Keeping.{kept_reply}
-use Rattle.effects.specs.Requests.{IsPassing, KeepsWindow, PutsIntoEffect}
+use Rattle.effects.specs.Requests.{is_concluded, IsPassing, KeepsWindow, PutsIntoEffect, WidensWindow}
 use Rattle.effects.specs.Taking.{Meaning, TakesMessage}
 use Rattle.effects.specs.declared.taking.Effect.{Effect}
 use Rattle.effects.specs.declared.taking.Effect.TheVariants as effect
@@ -321,6 +325,60 @@ step_window more ticks meaning entries (steps.Tick moment) old table stepped new
     let now = max old.moment moment in
     let was = ticked_stood now old.held new.held table serial b sound.held (ticks now old.held.associations table t.ticked new.held.associations new_table t.ticks) held.after in
     inl (ap (λ (r : PeerRequests). r.size) was.on.incoming ∙ ap (λ (x : Association). x.incoming.size) (same_one was.was a (sym was.stood ∙ held.before)))
+
+-- ---- who is established widens the window
+
+both : (b : Bool) → b ≡ true → b ≡ false → ⊥
+both true one other = cc
+both false one other = cc
+
+open_established : (p q : Phase) → IsEstablished q → q ≡ p → is_concluded p ≡ false → ⊥
+open_established p q stands same open_yet = both (is_concluded p) (sym (ap is_concluded same) ∙ ap is_concluded stands.is) open_yet
+
+closed_established : (keys : Option KeyRecord) (at : ℕ) (known : KeyRecord) → phase.Closed keys at ≡ phase.Established known → ⊥
+closed_established keys at known e = cc
+
+abbrev MessagesWiden : Type 0
+MessagesWiden = (meaning : Meaning) (setup : Setup) (old : Association) (table : Database) (octets : Octets) (m : Message) (e : Effect) (new : Association) (new_table : Database)
+    → is_concluded old.phase ≡ false → IsEstablished new.phase → TakesMessage meaning setup old table octets m e new new_table → WidensWindow setup.config.window old new
+
+change_widens : MessagesWiden → (meaning : Meaning) (setup : Setup) (octets : Octets) (stepped : Stepped) (table : Database) (a b : Association) → is_concluded a.phase ≡ false → IsEstablished b.phase
+    → Change meaning setup octets stepped table a b → WidensWindow setup.config.window a b
+change_widens widens meaning setup octets stepped table a b open_yet stands (unchanged is) = absurd (open_established a.phase b.phase stands (ap (λ (x : Association). x.phase) is) open_yet)
+change_widens widens meaning setup octets stepped table a b open_yet stands (asked is same_phase) = absurd (open_established a.phase b.phase stands same_phase open_yet)
+change_widens widens meaning setup octets stepped table a b open_yet stands (took_it t) = widens meaning setup a table octets t.message t.effect b t.new_table open_yet stands t.takes
+
+way_widens : Laws → MessagesWiden → (meaning : Meaning) (setup : Setup) (octets : Octets) (old : Held) (table : Database) (stepped : Stepped) (new : Held) (new_table : Database) (serial : ℕ) (a b : Association)
+    → AreSound old table → IsHeldThrough serial old new a b → is_concluded a.phase ≡ false → IsEstablished b.phase → Way meaning setup octets old table stepped new new_table → WidensWindow setup.config.window a b
+way_widens laws widens meaning setup octets old table stepped new new_table serial a b sound held open_yet stands way =
+    change_widens widens meaning setup octets stepped table a b open_yet stands (way_change laws meaning setup octets old table stepped new new_table serial a b sound held way)
+
+pub step_widens : Laws → TicksHold → MessagesWiden → (meaning : Meaning) (entries : List Entry) (input : InputView) (old : Machine) (table : Database) (stepped : Stepped) (new : Machine) (new_table : Database)
+    (serial : ℕ) (a b : Association) → IsSoundMachine old table → Steps meaning entries input old table stepped new new_table → IsHeldThrough serial old.held new.held a b
+    → is_concluded a.phase ≡ false → IsEstablished b.phase → WidensWindow old.config.window a b
+step_widens laws ticks widens meaning entries (steps.Message from octets fresh) old table stepped new new_table serial a b sound is held open_yet stands =
+    way_widens laws widens meaning (setup_at old entries fresh) octets old.held table stepped new.held new_table serial a b sound.held held open_yet stands
+    (datagram_way meaning (setup_at old entries fresh) old.cookies from octets old.held table stepped new.held new_table is.1)
+step_widens laws ticks widens meaning entries (steps.Start None place fresh) old table stepped new new_table serial a b sound is held open_yet stands =
+    way_widens laws widens meaning (setup_at old entries fresh) [] old.held table stepped new.held new_table serial a b sound.held held open_yet stands (started (record { place = place; starts = is.1 }))
+step_widens laws ticks widens meaning entries (steps.Start (Some asker) place fresh) old table stepped new new_table serial a b sound is held open_yet stands =
+    way_widens laws widens meaning (setup_at old entries fresh) [] old.held table stepped new.held new_table serial a b sound.held held open_yet stands
+    (probed (further_one meaning (setup_at old entries fresh) asker place old.held table stepped new.held new_table is.1))
+step_widens laws ticks widens meaning entries (steps.Order what fresh) old table stepped new new_table serial a b sound is held open_yet stands =
+    way_widens laws widens meaning (setup_at old entries fresh) [] old.held table stepped new.held new_table serial a b sound.held held open_yet stands
+    (probed (asked_one meaning (setup_at old entries fresh) what old.held table stepped new.held new_table is.1))
+step_widens laws ticks widens meaning entries (steps.Secret secret) old table stepped new new_table serial a b sound is held open_yet stands =
+    absurd (open_established a.phase b.phase stands
+    (ap (λ (x : Association). x.phase) (still_same old.held new.held serial a b (ap (λ (m : Machine). m.held) is.content) held.before held.after)) open_yet)
+step_widens laws ticks widens meaning entries (steps.Tick moment) old table stepped new new_table serial a b sound is held open_yet stands =
+    let t = is.takes in
+    let now = max old.moment moment in
+    let was = ticked_stood now old.held new.held table serial b sound.held (ticks now old.held.associations table t.ticked new.held.associations new_table t.ticks) held.after in
+    let same : was.was ≡ a = same_one was.was a (sym was.stood ∙ held.before) in
+    elim was.on.phase [
+      | inl stays ↦ absurd (open_established a.phase b.phase stands (stays.1 ∙ ap (λ (x : Association). x.phase) same) open_yet)
+      | inr closes ↦ absurd (closed_established _ now stands.keys (sym (ap (λ (x : Association). x.phase) closes.content) ∙ stands.is))
+    ]
 
 -- ---- how long it is held
 

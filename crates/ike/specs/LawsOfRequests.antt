@@ -1,7 +1,7 @@
 -- The peer's requests: which are processed, what is remembered of them, and how retransmissions are answered;
 -- serials.
 use Rattle.std.specs.FinMap as map
-use Rattle.std.specs.Prelude.{◌<◌, ◌≡◌, ◌≤◌, ◌⊎◌, true, ℕ, List, None, Option, Some}
+use Rattle.std.specs.Prelude.{◌<◌, ◌≡◌, ◌≤◌, ◌⊎◌, true, ℕ, List, None, Option, Some, false}
 use Rattle.base.specs.Octets.{Octets}
 use Rattle.policy.specs.declared.entry.Entry.{Entry}
 use Rattle.sadb.specs.Database.{Database}
@@ -11,7 +11,8 @@ use Rattle.association.specs.declared.fault.MessageFault.TheVariants as why
 use Rattle.association.specs.declared.phase.Association.{Association}
 use Rattle.association.specs.declared.phase.HalfOpen.{HalfOpen}
 use Rattle.association.specs.declared.phase.Phase.TheVariants as phase
-use Rattle.effects.specs.Requests.{is_concluded, IsSoundlyHeld, KeepsWindow, StaysConcluded}
+use Rattle.association.specs.Phases.{IsEstablished}
+use Rattle.effects.specs.Requests.{is_concluded, IsSoundlyHeld, KeepsWindow, StaysConcluded, WidensWindow}
 use Rattle.effects.specs.Taking.{Meaning}
 use Rattle.ike.specs.Faults.{is_want_of_memory}
 use Rattle.ike.specs.LawCases.{EachStep, IsStep}
@@ -78,6 +79,15 @@ TheWindowStaysOrIsWidened = EachStep (λ it. (serial : ℕ) (a b : Association)
     → IsStep it
     → IsHeldThrough serial it.old.held it.new.held a b
     → KeepsWindow it.old.config.window a b)
+
+abbrev pub TheEstablishedHaveTheirWindowWidened : Type 0
+TheEstablishedHaveTheirWindowWidened = EachStep (λ it. (serial : ℕ) (a b : Association)
+    → IsSoundMachine it.old it.table
+    → IsStep it
+    → IsHeldThrough serial it.old.held it.new.held a b
+    → is_concluded a.phase ≡ false
+    → IsEstablished b.phase
+    → WidensWindow it.old.config.window a b)
 
 abbrev pub WhatIsGoneWasGivenUp : Type 0
 WhatIsGoneWasGivenUp = EachStep (λ it. (serial : ℕ) (a : Association)

@@ -188,9 +188,22 @@ pub record RefusesOffer (meaning : Meaning) (setup : Setup) (cookies : CookieSec
   pub judged : IsJudged meaning cookies old from m (Accepted offer)
   pub why : CannotMake old setup.fresh.spi reason
 
--- on allocation failure, or as an offer
+-- After it is decoded, a request that lacks a part, or for which there is no room, takes no more memory.
+abbrev pub CanWantAfter : JudgementView → Type 0
+CanWantAfter (Answered notice) = Unit {0}
+CanWantAfter Incomplete = ⊥
+CanWantAfter Full = ⊥
+CanWantAfter (Accepted offer) = Unit {0}
+
+-- there may be no memory for what a request is judged to be
+pub record WantsNew (meaning : Meaning) (cookies : CookieSecrets) (from : Octets) (m : Message) (old : Held) : Type 0 where
+  pub judgement : JudgementView
+  pub judged : IsJudged meaning cookies old from m judgement
+  pub wants : CanWantAfter judgement
+
+-- on allocation failure, unless no memory is taken, or as an offer
 abbrev pub RefusesNew : Meaning → Setup → CookieSecrets → Octets → Message → Held → IkeFault → Type 0
-RefusesNew meaning setup cookies from m old (fault.Memory f) = f ≡ child.Message
+RefusesNew meaning setup cookies from m old (fault.Memory f) = (f ≡ child.Message) × WantsNew meaning cookies from m old
 RefusesNew meaning setup cookies from m old reason = RefusesOffer meaning setup cookies from m old reason
 
 -- the datagram is a request that made no IKE SA which is still half open, with an offer

@@ -1,2 +1,3 @@
 mod ChildLemmas
 mod ConcludingLemmas
+mod ReadingLemmas

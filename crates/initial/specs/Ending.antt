@@ -1,5 +1,5 @@
 -- What an initiator makes of the response to IKE_AUTH (RFC 7296 sections 1.2, 2.15 and 2.21.2).
-use Rattle.std.specs.Prelude.{◌≡◌, ℕ, true, false, Option, Some, None, List}
+use Rattle.std.specs.Prelude.{◌≡◌, ℕ, Bool, true, false, Option, Some, None, List}
 use Rattle.std.specs.FinMap as map
 use Rattle.wire.specs.declared.payload.Payload.{Payload}
 use Rattle.exchange.specs.declared.headers.Role.TheVariants.{Responder}
@@ -16,13 +16,14 @@ use Rattle.association.specs.declared.phase.Phase.{Phase}
 use Rattle.association.specs.declared.phase.Phase.TheVariants as phase
 use Rattle.association.specs.declared.phase.Request.{Request}
 use Rattle.auth.specs.Answers.{is_accepted}
-use Rattle.auth.specs.Proofs.{proving_of, Accepts, ProvingView}
+use Rattle.auth.specs.Proofs.{names, proving_of, Accepts, ProvingView}
 use Rattle.auth.specs.Windows.{peer_window, IsWindow}
 use Rattle.children.specs.Accepting.{IsAcceptedChild, IsUnacceptable}
 use Rattle.initial.specs.Concluding.{ConcludesBy}
 use Rattle.association.specs.Issuing.{with_outgoing}
 use Rattle.setup.specs.Configs.{first_setting, Setup}
 use Rattle.exchange.specs.Chains.{IsRead}
+use Rattle.exchange.specs.Counting.{only_auth, only_id_r}
 use Rattle.association.specs.declared.outcome.Ended.{Ended}
 use Rattle.initial.specs.declared.concluding.Outcome.{Outcome}
 use Rattle.initial.specs.declared.concluding.Outcome.TheVariants as outcome
@@ -30,6 +31,11 @@ use Rattle.initial.specs.declared.concluding.Outcome.TheVariants as outcome
 -- what the responder has to prove
 abbrev pub responder_proving : AuthSent → ProvingView
 responder_proving sent = proving_of Responder sent.keys sent.first
+
+-- There is one IDr, which is the peer's, and one AUTH (RFC 7296 section 2.15). Where not, the answer is refused
+-- without asking the provider.
+abbrev pub names_peer : Setup → List Payload → Bool
+names_peer setup payloads = names setup.config.peer.identity (only_id_r payloads) (only_auth payloads)
 
 -- the Child SA, where the answer has an acceptable one
 abbrev pub IsFirstChild : Setup → ℕ → AuthSent → List Payload → Option Pair → Type 0

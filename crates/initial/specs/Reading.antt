@@ -16,7 +16,7 @@ use Rattle.exchange.specs.Sealed.{IsSealed}
 use Rattle.exchange.specs.declared.headers.Role.TheVariants.{Initiator}
 use Rattle.requests.specs.Outgoing.{number_0_answered, ReplacesRequest}
 use Rattle.sa_init.specs.Messages.{request_message}
-use Rattle.sa_init.specs.Reading.{IsResponse, WaitingView}
+use Rattle.sa_init.specs.Reading.{AcceptsNothing, AsksCookie, IsResponse, WaitingView}
 use Rattle.sa_init.specs.declared.response.Response.{Response}
 use Rattle.sa_init.specs.declared.response.Response.TheVariants as response
 use Rattle.association.specs.AskedChildren.{asked_of}
@@ -59,6 +59,15 @@ asker_by sealer agreement proof caller = record {
 -- what this end remembers of its request
 abbrev pub waiting_of : ℕ → InitSent → WaitingView
 waiting_of spi_i sent = record { spi_i = spi_i; secret = sent.secret; nonce = sent.nonce; cookie = sent.cookie; cookies_taken = sent.cookies_taken }
+
+-- It is unfit by what it says: it asks for no cookie that is to be brought, and accepts nothing.
+pub record BringsNothing (cipher : Cipher) (group : ℕ) (sent : WaitingView) (m : Message) : Type 0 where
+  pub no_cookie : (octets : Octets) → ¬ AsksCookie sent m octets
+  pub no_answer : AcceptsNothing cipher group m
+
+-- the message is unfit for this IKE SA without asking the agreement, or the IKE SA waits for no such response
+abbrev pub IsUnfitAtOnce : Cipher → ℕ → Association → Message → Type 0
+IsUnfitAtOnce cipher group a m = (sent : InitSent) → a.phase ≡ phase.InitSent sent → BringsNothing cipher group (waiting_of a.spi_i sent) m
 
 -- The request goes out again with the cookie, and all else unchanged; its timer runs anew (section 2.6).
 pub record BringsCookie (asker : Asker) (moment : ℕ) (old : Association) (sent : InitSent) (number : ℕ) (cookie : Octets) (octets : Octets) (new : Association) : Type 0 where

@@ -1,12 +1,14 @@
 //! The response to IKE_AUTH.
-ghost use Rattle.std.specs.Prelude.{◌≡◌, ◌≢◌, Some, IfOk, IfErr};
+ghost use Rattle.std.specs.Prelude.{◌≡◌, ◌≢◌, false, Some, IfOk, IfErr, IsOk};
 ghost use Rattle.requests.specs.Outgoing.{IsOutstanding};
+ghost use Rattle.association.specs.AskedChildren.{asked_of};
 ghost use Rattle.association.specs.Closing.{HoldsReserved};
+ghost use Rattle.children.specs.Accepting.{IsUnacceptable};
 ghost use Rattle.children.specs.declared.fault.MemoryFault.TheVariants as child;
 ghost use Rattle.exchange.specs.Chains.{TellsError};
 ghost use Rattle.setup.specs.Configs.{setup_of};
 ghost use Rattle.initial.specs.Concluding.{CanConclude};
-ghost use Rattle.initial.specs.Ending.{EndsWhereSent, FitsVerdict, IsVerdict, Judges};
+ghost use Rattle.initial.specs.Ending.{names_peer, EndsWhereSent, FitsVerdict, IsVerdict, Judges};
 ghost use Rattle.association.specs.Purposes.{AsksForNoFurtherChild};
 
 use crate::concluding::{Outcome, conclude};
@@ -99,6 +101,7 @@ fn judge_response<C: Proof>(
     }
 }
 
+// No memory is wanted where the payloads don't name the peer, and none for a child that isn't acceptable.
 fn judge_payloads<C: Proof>(
     alloc: Global,
     setup: &Setup<'_, C>,
@@ -110,6 +113,9 @@ fn judge_payloads<C: Proof>(
         (Some payloads.now)) }
     ensures fits { IfOk result (FitsVerdict sent.now) }
     ensures wanted { IfErr result (λ fault. fault ≢ child.Table) }
+    ensures early { names_peer (setup_of setup.now) payloads.now ≡ false → IsOk result }
+    ensures unacceptable { IsUnacceptable (asked_of sent.now.child) payloads.now
+        → IfErr result (λ fault. fault ≡ child.Message) }
 {
     windows_are_read_again();
     let proving = Proving::of(Role::Responder, &sent.keys, sent.first.as_slice());

@@ -1,12 +1,12 @@
 //! The response to IKE_SA_INIT.
-ghost use Rattle.std.specs.Prelude.{◌≡◌, ◌≤◌, ◌<◌, IfOk, IfErr, length};
+ghost use Rattle.std.specs.Prelude.{◌≡◌, ◌≤◌, ◌<◌, IfOk, IfErr, IsOk, length};
 ghost use Rattle.wire.specs.Messages.{Spells, SpellsPlainly};
 ghost use Rattle.exchange.specs.Headers.{keys_of};
 ghost use Rattle.exchange.specs.Sealed.{PAYLOADS_LIMIT, IsSealed};
 ghost use Rattle.requests.specs.Outgoing.{IsOutstanding};
 ghost use Rattle.sa_init.specs.Reading.{waiting_view};
 ghost use Rattle.setup.specs.Configs.{setup_of};
-ghost use Rattle.initial.specs.Reading.{asker_by, carrying, identity_message, telling, waiting_of, ReadsWhereWaiting, TakesFew};
+ghost use Rattle.initial.specs.Reading.{asker_by, carrying, identity_message, telling, waiting_of, IsUnfitAtOnce, ReadsWhereWaiting, TakesFew};
 ghost use Rattle.std.specs.Prelude.{Some};
 ghost use Rattle.sa_init.specs.Messages.{request_message};
 ghost use Rattle.association.specs.AskedChildren.{asked_of};
@@ -53,7 +53,9 @@ pub enum Continued {
 /// window where that is above 1. Where this end doesn't wait for the response, it is [`Continued::Unfit`].
 ///
 /// The caller asks only where a request with this Message ID is outstanding, and the octets are those that
-/// the message was decoded from. The only error is an allocation failure, and it changes nothing.
+/// the message was decoded from. The only error is an allocation failure, and it changes nothing. None comes
+/// where this end doesn't wait for the response, nor for one that asks for no cookie that is to be brought and
+/// doesn't accept what was offered.
 pub fn read_response<C: Sealer + Agreement + Proof>(
     alloc: Global,
     setup: &Setup<'_, C>,
@@ -68,6 +70,7 @@ pub fn read_response<C: Sealer + Agreement + Proof>(
         (asker_by C.Sealer C.Agreement C.Proof setup.now.caller.now)
         (setup_of setup.now) association.old number octets.now message.now continued association.new) }
     ensures refused { IfErr result (λ _. association.new ≡ association.old) }
+    ensures early { IsUnfitAtOnce C.cipher C.group_number association.old message.now → IsOk result }
 {
     cookies_are_short();
     let Phase::InitSent(sent) = &association.phase else {

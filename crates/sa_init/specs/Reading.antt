@@ -45,6 +45,10 @@ pub record IsAcceptance (cipher : Cipher) (group : ℕ) (m : Message) (parts : P
   pub same_group : parts.group ≡ group
   pub named : m.header.spi_r ≢ 0
 
+-- The response accepts nothing that was offered. One that asks for a cookie never does, since it names no SPI.
+abbrev pub AcceptsNothing : Cipher → ℕ → Message → Type 0
+AcceptsNothing cipher group m = (parts : PartsView) → ¬ IsAcceptance cipher group m parts
+
 -- It accepts, and these keys follow (section 2.14).
 pub record GivesKeys (cipher : Cipher) (group : ℕ) (shared_secret : Octets → Octets → Option Octets) (sent : WaitingView) (m : Message) (keys : KeyRecord) : Type 0 where
   pub parts : PartsView

@@ -1,9 +1,9 @@
 //! What an initiator makes of a response (RFC 7296, sections 1.2, 2.6 and 2.14).
-ghost use Rattle.std.specs.Prelude.{◌≡◌, ◌≢◌, ◌↔◌, Some, IfOk, IsTrue, MatchOption};
+ghost use Rattle.std.specs.Prelude.{◌≡◌, ◌≢◌, ◌↔◌, Some, IfOk, IsOk, IsTrue, MatchOption};
 ghost use Rattle.base.specs.Octets.{Octets};
 ghost use Rattle.sa_init.specs.Fitting.{IsSpelled};
 ghost use Rattle.sa_init.specs.Parts.{parts_view, PartsView};
-ghost use Rattle.sa_init.specs.Reading.{waiting_view, AsksCookie, IsAcceptance, IsResponse};
+ghost use Rattle.sa_init.specs.Reading.{waiting_view, AcceptsNothing, AsksCookie, IsAcceptance, IsResponse};
 
 use crate::encoding::nonce_fits;
 use crate::laws::spelled_parts_fit;
@@ -40,7 +40,9 @@ pub enum Response<'a> {
     Unfit,
 }
 
-/// What an initiator makes of a response to its request. The only error is an allocation failure.
+/// What an initiator makes of a response to its request. The only error is an allocation failure, and none
+/// comes where the agreement isn't asked: for a response that asks for a cookie, or doesn't accept what was
+/// offered.
 ///
 /// [`Response::Cookie`] where a cookie is the only payload, the responder's SPI is zero, the request did
 /// not carry the same cookie, and fewer than [`COOKIES_TAKEN_LIMIT`] were taken. [`Response::Keys`] where
@@ -57,8 +59,9 @@ pub fn read<'a, C: Sealer + Agreement>(
     sent: &Waiting<'_>,
 ) -> Result<Response<'a>, AllocError>
     requires { IsSpelled message.now }
-    ensures { IfOk result
+    ensures read { IfOk result
         (IsResponse C.cipher C.group_number C.shared_secret (waiting_view sent.now) message.now) }
+    ensures early { AcceptsNothing C.cipher C.group_number message.now → IsOk result }
 {
     let own_nonce = sent.nonce;
     let secret = sent.secret;

@@ -1,10 +1,11 @@
 -- Packets on their way out whose ESP packets are appended to a buffer.
-use Rattle.std.proofs.Common.{◌≡◌, ◌≢◌, ◌≤◌, ℕ, ◌++◌, List, [], length, take, drop, refl, sym, ap, ◌∙◌, subst, inl, inr, take-append-drop}
+use Rattle.std.proofs.Common.{◌≡◌, ◌≤◌, ℕ, ◌++◌, List, [], length, take, drop, refl, sym, ap, ◌∙◌, subst, take-append-drop}
 use Rattle.std.proofs.lemmas.List.{append-nil, drop_at, length-take-le, take_at}
 use Rattle.std.specs.Borrow.{Bor}
 use Rattle.std.specs.Prelude.{Result, Ok, Err, IfErr, IfOk}
 use Rattle.base.specs.Addresses.{family_of}
 use Rattle.base.specs.Octets.{Octets}
+use Rattle.esp.specs.Sealing.{IsSealRefusal}
 use Rattle.esp.specs.declared.fault.EspFault.{EspFault}
 use Rattle.esp.specs.declared.fault.EspFault.TheVariants as refusals
 use Rattle.flows.specs.Treatments.{action_of, IsCarriedSo}
@@ -15,18 +16,18 @@ use Rattle.policy.specs.Packets.{IsFlowOf}
 use Rattle.policy.specs.declared.entry.Entry.{Entry}
 use Rattle.policy.specs.declared.flow.Flow.{Flow}
 use Rattle.policy.specs.declared.policy.Direction.TheVariants.{Outward}
-use Rattle.sadb.specs.Database.{Database, IsOutbound, SealRefusalAt, SealsAt}
+use Rattle.sadb.specs.Database.{Database, IsOutbound, PairMap, SealRefusalAt, SealsAt}
 use Rattle.sadb.specs.Laying.{finished_at, finished_at_behind}
 use Rattle.traffic.specs.Behind.{DepartsBehind, LaysBehind, ProtectsBehind, SendsBehind}
 use Rattle.traffic.specs.Laying.{finished_outcome}
 use Rattle.traffic.specs.NextHeaders.{next_header_of}
 use Rattle.traffic.specs.Outcomes.{Outcome, outcome_of_laid}
 use Rattle.traffic.specs.Outcomes as outcomes
-use Rattle.traffic.specs.Sending.{Departs}
+use Rattle.traffic.specs.Sending.{Departs, HasNumberAt}
 use Rattle.traffic.specs.declared.departure.Laid.{Laid}
 use Rattle.traffic.specs.declared.departure.Laid.TheVariants as laid
 use Rattle.traffic.specs.declared.fault.PacketFault.{PacketFault}
-use Rattle.traffic.specs.declared.fault.PacketFault.TheVariants.{UnknownAssociation, Esp}
+use Rattle.traffic.specs.declared.fault.PacketFault.TheVariants.{UnknownAssociation}
 use Rattle.traffic.proofs.FollowingLemmas.{Keeps, sent}
 use Rattle.traffic.proofs.SendingLemmas.{departs}
 
@@ -74,38 +75,20 @@ protects_sealed old flow packet before child next number new after carrier next_
       };
     }
 
--- the buffer had room made in it before
-pub behind_same : (becomes : Outcome → Type 0) (before between : Octets) (what : Laid) (new : Database) (after : Octets) → between ≡ before → LaysBehind becomes between what new after
-    → LaysBehind becomes before what new after
-behind_same becomes before between what new after same is = subst (λ (xs : Octets). LaysBehind becomes xs what new after) same is
+-- ---- where there is no memory for it
+
+-- an SA pair asks for memory only where it has a number left
+pub number_left : (pairs : PairMap) (child : ℕ) (packet : Octets) (fault : EspFault) → fault ≡ refusals.Memory → SealRefusalAt pairs child packet fault → HasNumberAt pairs child
+number_left pairs child packet fault is refused = record {
+  pair = refused.pair;
+  there = refused.there;
+  has_number = (subst (IsSealRefusal refused.pair.outbound packet) is refused.refused).0;
+}
 
 -- ---- where nothing is appended
 
 nothing_more : (before after : Octets) → after ≡ before → after ≡ before ++ []
 nothing_more before after is = is ∙ sym (append-nil before)
-
-short_enough : (packet : Octets) (flow : Flow) → IsFlowOf packet flow → length packet ≤ 16384
-short_enough packet flow (inl is) = is.packet.most
-short_enough packet flow (inr is) = is.packet.most
-
-pub protects_refused : (old : Database) (flow : Flow) (packet before : Octets) (child : ℕ) (fault : EspFault) (new : Database) (after : Octets)
-    → IsFlowOf packet flow → IsOutbound old.pairs flow child → SealRefusalAt old.pairs child packet fault → fault ≢ refusals.Memory → new ≡ old → after ≡ before
-    → ProtectsBehind old flow packet before (laid.Dropped (Esp fault)) new after
-protects_refused old flow packet before child refusals.Exhausted new after flow_is carrier refused other same none = record {
-  appended = [];
-  after_is = nothing_more before after none;
-  is_appended = refl;
-  became = (record { child = child; carrier = carrier; refused = refused }, same);
-}
-protects_refused old flow packet before child refusals.PayloadSize new after flow_is carrier refused other same none =
-    absurd (refused.refused.1 (short_enough packet flow flow_is))
-protects_refused old flow packet before child refusals.Memory new after flow_is carrier refused other same none = absurd (other refl)
-protects_refused old flow packet before child refusals.BadLength new after flow_is carrier refused other same none = absurd refused.refused
-protects_refused old flow packet before child refusals.Old new after flow_is carrier refused other same none = absurd refused.refused
-protects_refused old flow packet before child refusals.Replayed new after flow_is carrier refused other same none = absurd refused.refused
-protects_refused old flow packet before child refusals.BadNumber new after flow_is carrier refused other same none = absurd refused.refused
-protects_refused old flow packet before child refusals.BadIcv new after flow_is carrier refused other same none = absurd refused.refused
-protects_refused old flow packet before child refusals.BadPadding new after flow_is carrier refused other same none = absurd refused.refused
 
 -- of a packet that doesn't go protected this becomes
 pub lays_nothing : (becomes : Outcome → Type 0) (before : Octets) (fault : PacketFault) (new : Database) → becomes (outcomes.Dropped fault) → LaysBehind becomes before (laid.Dropped fault) new before

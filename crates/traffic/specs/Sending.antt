@@ -1,7 +1,8 @@
 -- What becomes of a packet on its way out (RFC 4301 section 5.1).
-use Rattle.std.specs.Prelude.{◌≡◌, ℕ, List, []}
+use Rattle.std.specs.Prelude.{◌≡◌, ℕ, List, [], Some}
 use Rattle.base.specs.Addresses.{family_of}
 use Rattle.base.specs.Octets.{Octets}
+use Rattle.esp.specs.Sealing.{HasNumber}
 use Rattle.esp.specs.declared.fault.EspFault.TheVariants.{Exhausted}
 use Rattle.flows.specs.declared.treatment.Treatment.{Treatment}
 use Rattle.flows.specs.declared.treatment.Treatment.TheVariants as treatments
@@ -13,7 +14,8 @@ use Rattle.policy.specs.declared.entry.Entry.{Entry}
 use Rattle.policy.specs.declared.flow.Flow.{Flow}
 use Rattle.policy.specs.declared.policy.Direction.{Direction}
 use Rattle.policy.specs.declared.policy.Direction.TheVariants.{Outward}
-use Rattle.sadb.specs.Database.{Carries, Database, IsOutbound, SealRefusalAt, SealsAt}
+use Rattle.sadb.specs.Database.{Carries, Database, IsOutbound, PairMap, SealRefusalAt, SealsAt, pair_at}
+use Rattle.sadb.specs.declared.pair.Pair.{Pair}
 use Rattle.traffic.specs.NextHeaders.{next_header_of}
 use Rattle.traffic.specs.Outcomes.{Outcome, Up, Dummy, Sealed, Clear, Discarded, Dropped}
 use Rattle.traffic.specs.declared.fault.PacketFault.TheVariants.{UnknownAssociation, Esp, Inner, OutsideSelectors}
@@ -75,13 +77,21 @@ Sends old policy packet (Dropped fault) new = IsProtected old policy packet (Dro
 Sends old policy packet (Up child number inner) new = ⊥
 Sends old policy packet (Dummy child number) new = ⊥
 
--- an SA pair carries the flow
-pub record HasCarrier (table : Database) (flow : Flow) : Type 0 where
+-- the SA pair with this serial has a sequence number left
+pub record HasNumberAt (pairs : PairMap) (serial : ℕ) : Type 0 where
+  pub pair : Pair
+  pub there : pair_at pairs serial ≡ Some pair
+  pub has_number : HasNumber pair.outbound
+
+-- an SA pair carries the flow, and has a sequence number left
+pub record HasUnspentCarrier (table : Database) (flow : Flow) : Type 0 where
   pub child : ℕ
   pub carrier : IsOutbound table.pairs flow child
+  pub number : HasNumberAt table.pairs child
 
--- the packet is to be protected, and there is an SA pair for it: only then memory is asked for
+-- the packet is to be protected, and there is an SA pair for it that has a sequence number left: only then
+-- memory is asked for
 pub record IsToBeSealed (table : Database) (policy : List Entry) (packet : Octets) : Type 0 where
   pub flow : Flow
   pub decided : IsDecided policy Outward packet flow Protect
-  pub carrier : HasCarrier table flow
+  pub carrier : HasUnspentCarrier table flow

@@ -1,21 +1,25 @@
 //! Packets on their way out (RFC 4301, section 5.1).
-ghost use Rattle.std.specs.Prelude.{◌≡◌, ◌+◌, ◌≤◌, IfErr, IfOk, IsOk, length, vec_len};
+ghost use Rattle.std.specs.Prelude.{◌≡◌, ◌+◌, ◌<◌, ◌≤◌, IfErr, IfOk, IsOk, length, vec_len};
 ghost use Rattle.std.specs.Vec.{vec_capacity};
-ghost use Rattle.flows.specs.Memory.{AllRight};
+ghost use Rattle.flows.specs.Memory.{AllRight, HoldsTreatmentOf};
 ghost use Rattle.flows.specs.Treatments.{action_of, IsCarriedSo};
 ghost use Rattle.policy.specs.declared.entry.Action.TheVariants.{Protect};
-ghost use Rattle.policy.specs.Packets.{IsFlowOf};
+ghost use Rattle.policy.specs.Packets.{IsFlowOf, IsInnerRefusal};
+ghost use Rattle.policy.specs.declared.fault.InnerFault.{InnerFault};
+ghost use Rattle.policy.specs.declared.flow.Flow.{Flow};
 ghost use Rattle.sadb.specs.Database.{IsOutbound};
 ghost use Rattle.traffic.specs.Behind.{DepartsBehind, ProtectsBehind, SendsBehind};
 ghost use Rattle.traffic.specs.Laying.{finished_outcome};
 ghost use Rattle.traffic.specs.Outcomes.{outcome_of_departure, outcome_of_laid};
-ghost use Rattle.traffic.specs.Sending.{HasCarrier, IsToBeSealed, Sends};
+ghost use Rattle.traffic.specs.Sending.{HasUnspentCarrier, HasNumberAt, IsToBeSealed, Sends};
 
 use crate::PacketFault;
 use crate::next_header::next_header_of;
 use base::Items;
+use esp::EspFault;
 use flows::laws::{answers_stay_right, no_pair_comes};
 use flows::{FlowMemory, Treatment, look_up};
+use policy::laws::flows_are_determined;
 use policy::{Flow, Policy, inner};
 use sadb::Table;
 use std::alloc::{AllocError, Global};
@@ -58,10 +62,6 @@ pub enum Laid<'a> {
     Dropped(PacketFault),
 }
 
-// The most octets that an ESP packet has beside its payload: SPI, sequence number, padding, its length, next
-// header and ICV.
-const OVERHEAD_LIMIT: usize = 29;
-
 /// Sends a packet by the policy's decision about its flow: sealed by the SA pair that carries the flow, in
 /// the clear, or not at all. What is to be protected never goes in the clear. A gateway calls [`lay`], which
 /// goes the same way with a memory of flows, and computes the ICV later. This plain form stays as what that
@@ -72,7 +72,7 @@ const OVERHEAD_LIMIT: usize = 29;
 /// [`EspFault::Exhausted`](esp::EspFault::Exhausted) (E12) where that pair has no sequence number left.
 ///
 /// The only error is an allocation failure, with nothing changed. Only a packet that a pair carries takes
-/// memory: once, for the ESP packet.
+/// memory, where that pair has a sequence number left: once, for the ESP packet.
 pub fn send<'a>(
     alloc: Global,
     table: &mut Table,
@@ -113,6 +113,11 @@ pub fn send_remembering<'a>(
     ensures memory { IfErr result
         (λ _. IsToBeSealed table.old policy.now packet.now × (table.new ≡ table.old)) }
     ensures right { AllRight policy.now table.new.pairs flows.new }
+    // Where the packet can't be read, nothing is remembered or forgotten.
+    ensures unread { (fault : InnerFault) → IsInnerRefusal packet.now fault → flows.new ≡ flows.old }
+    // Where there are places, the flow is remembered.
+    ensures held { (flow : Flow) → IsFlowOf packet.now flow → 0 < length flows.new
+        → HoldsTreatmentOf policy.now table.old.pairs flows.new flow }
 {
     let laid = lay(alloc, table, flows, policy, packet)?;
     Ok(finish(table, laid))
@@ -133,6 +138,11 @@ pub fn lay<'a>(
     ensures memory { IfErr result
         (λ _. IsToBeSealed table.old policy.now packet.now × (table.new ≡ table.old)) }
     ensures right { AllRight policy.now table.new.pairs flows.new }
+    // Where the packet can't be read, nothing is remembered or forgotten.
+    ensures unread { (fault : InnerFault) → IsInnerRefusal packet.now fault → flows.new ≡ flows.old }
+    // Where there are places, the flow is remembered.
+    ensures held { (flow : Flow) → IsFlowOf packet.now flow → 0 < length flows.new
+        → HoldsTreatmentOf policy.now table.old.pairs flows.new flow }
 {
     let mut octets = Vec::new(alloc);
     let laid = lay_behind(table, flows, policy, packet, &mut octets)?;
@@ -156,9 +166,15 @@ pub fn lay_behind<'a>(
         × (table.new ≡ table.old) × (out.new.items ≡ out.old.items)) }
     ensures room { vec_len out.old + (length packet.now + 29) ≤ vec_capacity out.old → IsOk result }
     ensures right { AllRight policy.now table.new.pairs flows.new }
+    // Where the packet can't be read, nothing is remembered or forgotten.
+    ensures unread { (fault : InnerFault) → IsInnerRefusal packet.now fault → flows.new ≡ flows.old }
+    // Where there are places, the flow is remembered.
+    ensures held { (flow : Flow) → IsFlowOf packet.now flow → 0 < length flows.new
+        → HoldsTreatmentOf policy.now table.old.pairs flows.new flow }
 {
     answers_stay_right();
     no_pair_comes();
+    flows_are_determined();
     let flow = match inner(packet) {
         Ok(flow) => flow,
         Err(fault) => return Ok(Laid::Dropped(PacketFault::Inner(fault))),
@@ -220,7 +236,7 @@ fn depart<'a>(
     requires carried { IsCarriedSo table.old.pairs flow.now treatment }
     ensures sent { IfOk result (λ laid. DepartsBehind table.old treatment flow.now packet.now
         out.old.items laid table.new out.new.items) }
-    ensures memory { IfErr result (λ _. (action_of treatment ≡ Protect) × HasCarrier table.old flow.now
+    ensures memory { IfErr result (λ _. (action_of treatment ≡ Protect) × HasUnspentCarrier table.old flow.now
         × (table.new ≡ table.old) × (out.new.items ≡ out.old.items)) }
     ensures room { vec_len out.old + (length packet.now + 29) ≤ vec_capacity out.old → IsOk result }
 {
@@ -244,12 +260,13 @@ fn lay_by<'a>(
     requires carrier { IsOutbound table.old.pairs flow.now child }
     ensures sent { IfOk result (λ laid. ProtectsBehind table.old flow.now packet.now
         out.old.items laid table.new out.new.items) }
-    ensures memory { IfErr result (λ _. (table.new ≡ table.old) × (out.new.items ≡ out.old.items)) }
+    ensures memory { IfErr result (λ _. HasNumberAt table.old.pairs child
+        × (table.new ≡ table.old) × (out.new.items ≡ out.old.items)) }
     ensures room { vec_len out.old + (length packet.now + 29) ≤ vec_capacity out.old → IsOk result }
 {
-    out.reserve(packet.len() + OVERHEAD_LIMIT)?;
     match table.lay(child, next_header_of(flow.family()), packet, out) {
         Ok(number) => Ok(Laid::Sealed { child, number }),
+        Err(EspFault::Memory) => Err(AllocError),
         Err(fault) => Ok(Laid::Dropped(PacketFault::Esp(fault))),
     }
 }

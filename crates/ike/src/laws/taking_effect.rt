@@ -1,6 +1,6 @@
 //! The peer's requests: which are processed, what is remembered of them, and how retransmissions are
 //! answered.
-ghost use Rattle.ike.specs.LawsOfRequests.{InitialRepeatsAreAnswered, InitialRepeatsAreRefusedForMemoryAlone, NewRequestsTakeEffect, NumbersTakeEffectByTheirDatagramAlone, OnlyRepeatsAreAnsweredAgain, OnlyWhatTakesEffectIsRepliedTo, RepeatsAreAnswered, RequestsAreRefusedForMemoryAlone, RequestsAreQuietOrNew, RequestsFollowThoseBefore, SerialsAreBelowTheNext, SerialsRise, TheConcludedStaysConcluded, TheForgottenIsDropped, TheHalfOpenWereSoBefore, TheWindowStaysOrIsWidened, WhatComesHalfOpenIsAdmitted, WhatComesHasTheNextSerial, WhatIsGoneWasGivenUp, WhatIsHeldIsSound};
+ghost use Rattle.ike.specs.LawsOfRequests.{InitialRepeatsAreAnswered, InitialRepeatsAreRefusedForMemoryAlone, NewRequestsTakeEffect, NumbersTakeEffectByTheirDatagramAlone, OnlyRepeatsAreAnsweredAgain, OnlyWhatTakesEffectIsRepliedTo, RepeatsAreAnswered, RequestsAreRefusedForMemoryAlone, RequestsAreQuietOrNew, RequestsFollowThoseBefore, SerialsAreBelowTheNext, SerialsRise, TheConcludedStaysConcluded, TheForgottenIsDropped, TheHalfOpenWereSoBefore, TheWindowStaysOrIsWidened, WhatComesHalfOpenIsAdmitted, WhatComesHasTheNextSerial, WhatIsGoneWasGivenUp, WhatIsHeldIsSound, TheEstablishedHaveTheirWindowWidened};
 
 use crate::laws::what_is_quiet_changes_nothing;
 use effects::laws::associations_stay_themselves;
@@ -34,7 +34,7 @@ pub fn requests_take_effect()
 /// What was processed stays in effect and is remembered, whatever a step does.
 ///
 /// - Of an IKE SA that stays held, the requests in effect only grow. The window widens once, when IKE_AUTH
-///   is done, to the one that this end announces.
+///   is done, to the one that this end announces. Whenever an IKE SA becomes established, its window is widened so.
 /// - One that is half open was so before, by the same request with the same response, or has become so by
 ///   the request that came and the response that was sent.
 /// - A new IKE SA has the next serial. It has no request in effect, or that of IKE_SA_INIT. It is held
@@ -44,6 +44,7 @@ pub fn requests_are_remembered()
     ensures follows { RequestsFollowThoseBefore }
     ensures concluded { TheConcludedStaysConcluded }
     ensures window { TheWindowStaysOrIsWidened }
+    ensures widens { TheEstablishedHaveTheirWindowWidened }
     ensures gone { WhatIsGoneWasGivenUp }
     ensures half_open { TheHalfOpenWereSoBefore }
     ensures admitted { WhatComesHalfOpenIsAdmitted }

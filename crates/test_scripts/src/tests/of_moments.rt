@@ -179,6 +179,33 @@ fn one_that_fails_sends_nothing(rt: HostRuntime) {
     );
 }
 
+/// As many IKE SAs as can be held, each with a request that was sent for the last time.
+fn most(rt: &impl Abort, alloc: Global) -> Vec<Association> {
+    let mut all = Vec::new(alloc);
+    for serial in 0..128u32 {
+        let mut other = association(alloc, serial, Phase::Established(keys()));
+        issue(rt, alloc, &mut other, Purpose::Probe, timer(31_000, 5));
+        all.push(other).expect(rt, "memory");
+    }
+    all
+}
+
+#[test]
+fn as_many_as_can_be_held_fail_at_once(rt: HostRuntime) {
+    let rows = [
+        (46_999, (0, 0, 128)),
+        (47_000, (0, 128, 128)),
+        (47_001, (0, 0, 128)),
+        (167_000, (0, 0, 0)),
+    ];
+    let mut associations = most(&rt, rt.alloc());
+    same(
+        &rt,
+        first_other(&rt, rt.alloc(), &mut associations, &rows),
+        None,
+    );
+}
+
 /// One IKE SA in a phase.
 fn alone(rt: &impl Abort, alloc: Global, phase: Phase) -> Vec<Association> {
     let mut all = Vec::new(alloc);

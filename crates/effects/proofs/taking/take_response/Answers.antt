@@ -9,7 +9,7 @@ use Rattle.setup.specs.Configs.{setup_of}
 use Rattle.effects.specs.Taking.{meaning_of, CanWantIn, DoesResponse, Meaning}
 use Rattle.effects.specs.declared.taking.Effect.{Effect}
 use Rattle.effects.proofs.ExchangeLemmas.{err_and}
-use Rattle.effects.proofs.TakingLemmas.{asks_none, auth_ended, auth_wants, further_counted, further_wants, informing_counted, sought_auth, sought_child, sought_no_auth, sought_no_child, sought_other}
+use Rattle.effects.proofs.TakingLemmas.{asks_none, auth_ended, auth_wants, further_counted, further_wants, informing_counted, no_place, sought_auth, sought_child, sought_no_auth, sought_no_child, sought_other}
 use Rattle.effects.proofs.taking.take_response.Goals as goal
 
 -- what its request asked for, in each arm
@@ -44,7 +44,8 @@ returns-in_err-ended-in-Child-clause-wanted g c =
     err_and c.from_residual-in_err-ended-in-Child.result _ _ c.from_residual-in_err-ended-in-Child.ensures.1 (λ e is.
     subst (λ (f : MemoryFault). CanWantIn old.phase true m.header.exchange c.args.table.now f) (sym is)
     (further_wants old m c.args.table.now c.in_err-ended-in-Child.field-0.0 c.requires.due c.requires.waits
-    (sought_child c.in-Child.asked c.in-Child.nonce old m c.requires.due (at old m c.args.sought (sought.Child c.in-Child.asked c.in-Child.nonce) c.in-Child.is c.requires.sought)) c.in_err-ended-in-Child.ensures.wanted))
+    (sought_child c.in-Child.asked c.in-Child.nonce old m c.requires.due (at old m c.args.sought (sought.Child c.in-Child.asked c.in-Child.nonce) c.in-Child.is c.requires.sought))
+    (no_place c.in-Child.asked c.args.plain.now c.in_err-ended-in-Child.field-0.0 c.in_err-ended-in-Child.ensures.wanted)))
 
 pub returns-in_ok-ended-in-Identity-clause-taken : goal.returns-in_ok-ended-in-Identity-clause-taken
 returns-in_ok-ended-in-Identity-clause-taken g c =

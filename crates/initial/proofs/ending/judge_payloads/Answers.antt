@@ -1,11 +1,16 @@
-use Rattle.std.proofs.Common.{ap, refl, sym, ◌∙◌}
+use Rattle.std.proofs.Common.{◌≡◌, Ok, Err, ap, refl, subst, sym, ◌∙◌}
 use Rattle.exchange.specs.declared.headers.Role.TheVariants.{Responder}
 use Rattle.auth.specs.Answers.{is_accepted}
 use Rattle.auth.specs.Proofs.{proving_of}
+use Rattle.children.specs.Accepting.{IsUnacceptable}
+use Rattle.children.specs.declared.asking.Asked.{Asked}
 use Rattle.setup.specs.Configs.{setup_of}
 use Rattle.setup.specs.declared.config.EndConfig.{EndConfig}
 use Rattle.initial.proofs.ChildLemmas.{first_child}
 use Rattle.initial.proofs.ending.judge_payloads.Goals as goal
+
+refuses : {A E : Type 0} {x : A} {e : E} → Err e ≡ Ok x → ⊥
+refuses is = cc
 
 pub returns-clause-judged : goal.returns-clause-judged
 returns-clause-judged g c =
@@ -21,3 +26,7 @@ returns-clause-judged g c =
           c.in_ok-accept.ensures.accepted;
       told = c.peer_window.ensures;
     }
+
+pub returns-in_err-accept-clause-unacceptable : goal.returns-in_err-accept-clause-unacceptable
+returns-in_err-accept-clause-unacceptable g c = λ none.
+    absurd (refuses (c.in_err-accept.ensures.early (subst (λ (a : Asked). IsUnacceptable a c.args.payloads.now) (sym c.asked.ensures.asked) none)))

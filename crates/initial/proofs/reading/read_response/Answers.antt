@@ -13,13 +13,14 @@ use Rattle.sa_init.specs.declared.response.Response.TheVariants as response
 use Rattle.association.specs.declared.purpose.Purpose.TheVariants.{Identify}
 use Rattle.association.specs.Issuing.{new_request, IssuesNext}
 use Rattle.initial.specs.Reading.{identity_message, telling, waiting_of}
+use Rattle.initial.proofs.ReadingLemmas.{keys_fit}
 use Rattle.initial.proofs.reading.read_response.Goals as goal
 
 pub returns-in-Ok-Unfit-clause-read : goal.returns-in-Ok-Unfit-clause-read
 returns-in-Ok-Unfit-clause-read g c =
     let sent = c.in-InitSent.sent in
     let m = c.args.message.now in
-    let read = subst (λ w. IsResponse g.C.Sealer.cipher g.C.Agreement.group_number g.C.Agreement.shared_secret w m c.in-Ok-Unfit.field-0) c.waiting-waiting.ensures c.in-Ok-Unfit.ensures in
+    let read = subst (λ w. IsResponse g.C.Sealer.cipher g.C.Agreement.group_number g.C.Agreement.shared_secret w m c.in-Ok-Unfit.field-0) c.waiting-waiting.ensures c.in-Ok-Unfit.ensures.read in
     inl (record {
       sent = sent;
       was = c.in-InitSent.is;
@@ -35,7 +36,7 @@ returns-in_ok-outgoing-in-Ok-Keys-clause-read g c =
     let old : Association = c.args.association.now in
     let new : Association = c.tell.new.association in
     let keys : KeyRecord = c.in-Ok-Keys.keys in
-    let read = subst (λ w. IsResponse g.C.Sealer.cipher g.C.Agreement.group_number g.C.Agreement.shared_secret w m c.in-Ok-Keys.field-0) c.waiting-waiting.ensures c.in-Ok-Keys.ensures in
+    let read = subst (λ w. IsResponse g.C.Sealer.cipher g.C.Agreement.group_number g.C.Agreement.shared_secret w m c.in-Ok-Keys.field-0) c.waiting-waiting.ensures c.in-Ok-Keys.ensures.read in
     let next : Octets = c.in_ok-next-in-Ok-Keys.next in
     let kept : c.in_ok-kept-in-Ok-Keys.kept ≡ next = c.in_ok-kept-in-Ok-Keys.ensures ∙ c.as_slice-in-Ok-Keys.ensures in
     let request : c.new_request.result ≡ new_request next Identify c.args.setup.now.moment = c.new_request.ensures ∙ ap (λ o. new_request o Identify c.args.setup.now.moment) kept in
@@ -60,3 +61,23 @@ returns-in_ok-outgoing-in-Ok-Keys-clause-read g c =
         content = c.tell.ensures ∙ (λ i. record old { spi_r = m.header.spi_r; outgoing = outgoing i; phase = phase i });
       };
     })
+
+pub returns-in_err-next-in-Ok-Keys-clause-early : goal.returns-in_err-next-in-Ok-Keys-clause-early
+returns-in_err-next-in-Ok-Keys-clause-early g c = λ unfit.
+    absurd (keys_fit g.C.Sealer.cipher g.C.Agreement.group_number g.C.Agreement.shared_secret c.args.association.now c.in-InitSent.sent _ c.args.message.now c.in-Ok-Keys.field-0 c.in-Ok-Keys.keys
+    c.in-InitSent.is c.in-Ok-Keys.field-0-is c.in-Ok-Keys.ensures.read unfit)
+
+pub returns-in_err-kept-in-Ok-Keys-clause-early : goal.returns-in_err-kept-in-Ok-Keys-clause-early
+returns-in_err-kept-in-Ok-Keys-clause-early g c = λ unfit.
+    absurd (keys_fit g.C.Sealer.cipher g.C.Agreement.group_number g.C.Agreement.shared_secret c.args.association.now c.in-InitSent.sent _ c.args.message.now c.in-Ok-Keys.field-0 c.in-Ok-Keys.keys
+    c.in-InitSent.is c.in-Ok-Keys.field-0-is c.in-Ok-Keys.ensures.read unfit)
+
+pub returns-in_err-response-in-Ok-Keys-clause-early : goal.returns-in_err-response-in-Ok-Keys-clause-early
+returns-in_err-response-in-Ok-Keys-clause-early g c = λ unfit.
+    absurd (keys_fit g.C.Sealer.cipher g.C.Agreement.group_number g.C.Agreement.shared_secret c.args.association.now c.in-InitSent.sent _ c.args.message.now c.in-Ok-Keys.field-0 c.in-Ok-Keys.keys
+    c.in-InitSent.is c.in-Ok-Keys.field-0-is c.in-Ok-Keys.ensures.read unfit)
+
+pub returns-in_err-outgoing-in-Ok-Keys-clause-early : goal.returns-in_err-outgoing-in-Ok-Keys-clause-early
+returns-in_err-outgoing-in-Ok-Keys-clause-early g c = λ unfit.
+    absurd (keys_fit g.C.Sealer.cipher g.C.Agreement.group_number g.C.Agreement.shared_secret c.args.association.now c.in-InitSent.sent _ c.args.message.now c.in-Ok-Keys.field-0 c.in-Ok-Keys.keys
+    c.in-InitSent.is c.in-Ok-Keys.field-0-is c.in-Ok-Keys.ensures.read unfit)

@@ -1,10 +1,13 @@
 use Rattle.std.specs.Prelude.{◌≡◌, refl}
+use Rattle.std.proofs.Common.{subst}
+use Rattle.flows.specs.Memory.{HoldsTreatmentOf}
 use Rattle.flows.specs.Staying.{NoneComes}
 use Rattle.flows.specs.Treatments.{action_of}
 use Rattle.policy.specs.declared.entry.Action.TheVariants.{Protect}
+use Rattle.policy.specs.declared.flow.Flow.{Flow}
 use Rattle.sadb.specs.Database.{Database}
 use Rattle.traffic.specs.Outcomes.{Outcome}
-use Rattle.traffic.specs.Sending.{HasCarrier, Sends}
+use Rattle.traffic.specs.Sending.{HasUnspentCarrier, Sends}
 use Rattle.traffic.specs.declared.fault.PacketFault.TheVariants.{Inner}
 use Rattle.traffic.proofs.FollowingLemmas.{Keeps}
 use Rattle.traffic.proofs.BehindLemmas.{departs_behind, lays_nothing, sent_behind}
@@ -24,10 +27,19 @@ returns-clause-right c =
       sealing = c.no_pair_comes.ensures.sealing;
     } in
     c.answers_stay_right.ensures.stay c.args.policy.now c.args.table.now.pairs c.depart.new.table.pairs c.treatment-treatment.new.self
-    (sent_behind (λ (a b : Database). NoneComes a.pairs b.pairs) keeps (action_of c.treatment-treatment.result ≡ Protect) (HasCarrier c.args.table.now c.in-Ok.flow) (c.depart.new.out.items ≡ c.args.out.now.items)
+    (sent_behind (λ (a b : Database). NoneComes a.pairs b.pairs) keeps (action_of c.treatment-treatment.result ≡ Protect) (HasUnspentCarrier c.args.table.now c.in-Ok.flow) (c.depart.new.out.items ≡ c.args.out.now.items)
     c.args.table.now c.args.policy.now c.args.packet.now c.args.out.now.items c.depart.result c.depart.new.table c.depart.new.out.items (returns-clause-sent c) c.depart.ensures.memory)
     c.treatment-treatment.ensures.all_right
 
 pub returns-in-Err-clause-sent : goal.returns-in-Err-clause-sent
 returns-in-Err-clause-sent c =
     lays_nothing (λ (o : Outcome). Sends c.args.table.now c.args.policy.now c.args.packet.now o c.args.table.now) c.args.out.now.items (Inner c.in-Err.fault) c.args.table.now (c.in-Err.ensures.refused, refl)
+
+pub returns-clause-held : goal.returns-clause-held
+returns-clause-held c = λ flow flow_is some.
+    subst (λ (f : Flow). HoldsTreatmentOf c.args.policy.now c.args.table.now.pairs c.treatment-treatment.new.self f)
+    (c.flows_are_determined.ensures.flow c.args.packet.now c.in-Ok.flow flow c.in-Ok.ensures.flow flow_is)
+    (record { treatment = c.treatment-treatment.result; found = c.treatment-treatment.ensures.right; held = c.treatment-treatment.ensures.held some })
+
+pub returns-clause-unread : goal.returns-clause-unread
+returns-clause-unread c = λ fault refused. absurd (c.flows_are_determined.ensures.apart c.args.packet.now c.in-Ok.flow fault c.in-Ok.ensures.flow refused)

@@ -1,5 +1,5 @@
 use Rattle.ike.proofs.InitialLemmas.{step_admits, step_next, step_rises}
-use Rattle.ike.proofs.OutputLemmas.{step_gone, step_window, MoreLaws}
+use Rattle.ike.proofs.OutputLemmas.{step_gone, step_widens, step_window, MoreLaws}
 use Rattle.ike.proofs.RequestLemmas.{below, held_soundly, step_concludes, step_follows, step_opened, Laws}
 use Rattle.ike.proofs.laws.taking_effect.requests_are_remembered.Goals as goal
 
@@ -35,5 +35,7 @@ returns c =
       given = λ machine table serial a sound stands. below machine.held table serial a sound.held stands;
       soundly = λ machine table serial a sound stands. held_soundly machine.held table serial a sound.held stands;
       window = step_window more c.some_are_held_on.ensures.held;
+      widens = step_widens laws c.some_are_held_on.ensures.held
+          (λ meaning setup old table octets m e new new_table open_yet stands is. (c.requests_are_remembered.ensures.widens meaning setup old table octets m e new new_table open_yet stands is).0);
       gone = step_gone laws c.what_is_held_was_held.ensures;
     }
