@@ -15,7 +15,7 @@ use Rattle.esp.specs.declared.precomputed.Precomputed.{Precomputed}
 use Rattle.esp.specs.declared.precomputed.Question.{Question}
 use Rattle.esp.specs.Ahead.{IsAhead}
 use Rattle.esp.specs.Packet.{unsent_half}
-use Rattle.esp.specs.Precomputed.{AreAnswers, ArePrecomputed, AreQuestions, IsAnswer, IsPrecomputed, IsQuestion, asked_value}
+use Rattle.esp.specs.Precomputed.{ArePrecomputed, IsPrecomputed, IsQuestion, asked_value}
 
 -- the value is the SA's own
 pub under_association : (b : List ℕ) (found : Precomputed) (a : Sa) (own : Ahead) → IsPrecomputed b found → found.extended ≡ a.extended → found.key ≡ a.key
@@ -30,7 +30,7 @@ under_association b found a own is extended key number value = record {
 }
 
 -- the answer to a question about a packet is its ICV
-precomputed_at : (b : List ℕ) (question : Question) (found : Precomputed) → IsQuestion b question → found.key ≡ question.association.now.key
+pub precomputed_at : (b : List ℕ) (question : Question) (found : Precomputed) → IsQuestion b question → found.key ≡ question.association.now.key
     → found.extended ≡ question.association.now.extended → found.number ≡ question.number → found.value ≡ asked_value question → IsPrecomputed b found
 precomputed_at b question found is key extended number value = record {
   right =
@@ -42,24 +42,15 @@ precomputed_at b question found is key extended number value = record {
       ∙ ap (λ (k : List ℕ). icv_sha256 k (take (length b - 16) b ++ unsent_half found.extended found.number)) (sym key);
 }
 
-pub answers_are_right : (packets : ℕ → List ℕ) (questions : List (Option Question)) (values : List (Option Precomputed)) → AreQuestions packets questions → AreAnswers questions values
-    → ArePrecomputed packets values
-answers_are_right packets questions values asked answers = record {
-  each = λ i found there. (
-      let answer = answers.each i found there in
-      precomputed_at (packets i) answer.question found (asked.each i answer.question answer.there) answer.key answer.extended answer.number answer.value
-      );
-}
-
 -- no value stands anywhere
-pub none_in : (n i : ℕ) → get_or {A = Option Precomputed} (replicate n None) i None ≡ None
+none_in : (n i : ℕ) → get_or {A = Option Precomputed} (replicate n None) i None ≡ None
 none_in n i = elim (cases_lt i n) [
   | inl within ↦ get_or-replicate n i None None within
   | inr past ↦ get_or_past (replicate n None) i None (omega (arith, length-replicate {A = Option Precomputed} n None))
 ]
 
-pub none_answers : (questions : List (Option Question)) (n : ℕ) → AreAnswers questions (replicate n None)
-none_answers questions n = record { each = λ i found there. (let nothing = none_in n i in absurd (cc)) }
+pub none_precomputed : (packets : ℕ → List ℕ) (n : ℕ) → ArePrecomputed packets (replicate n None)
+none_precomputed packets n = record { each = λ i found there. (let nothing = none_in n i in absurd (cc)) }
 
 one_alone : (P : Asked → Type 0) (one : Asked) → P one → (i : ℕ) → i < length (one ∷ []) → P (get_or (one ∷ []) i one)
 one_alone P one here zero h = here
@@ -88,10 +79,10 @@ asked_more f j tasks asked t d in_tasks in_asked so_far here =
     ∙ sym (map-append f (take j asked) (get_or asked j d ∷ []))
     ∙ sym (ap (map f) (take_more asked j d in_asked))
 
--- one answer more
-pub answers_more : (questions : List (Option Question)) (values : List (Option Precomputed)) (place : ℕ) (x : Precomputed) → place < length values → AreAnswers questions values
-    → IsAnswer questions place x → AreAnswers questions (set values place (Some x))
-answers_more questions values place x within so_far right = record {
+-- one value more
+pub precomputed_more : (packets : ℕ → List ℕ) (values : List (Option Precomputed)) (place : ℕ) (x : Precomputed) → place < length values → ArePrecomputed packets values
+    → IsPrecomputed (packets place) x → ArePrecomputed packets (set values place (Some x))
+precomputed_more packets values place x within so_far right = record {
   each = λ i found there. elim (cases_lt i place) [
     | inl below ↦ (let other : i ≢ place = omega arith in so_far.each i found (sym (get_or-set_other values place i (Some x) None other) ∙ there))
     | inr above ↦ elim (cases_lt place i) [
@@ -100,8 +91,8 @@ answers_more questions values place x within so_far right = record {
           let same : place ≡ i = omega arith in
           let set_here : Some x ≡ Some found = sym (get_or-set_same values place (Some x) None within) ∙ ap (λ (k : ℕ). get_or (set values place (Some x)) k None) same ∙ there in
           let is : x ≡ found = cc in
-          subst (λ (k : ℕ). IsAnswer questions k found) same
-          (subst (λ (y : Precomputed). IsAnswer questions place y) is right)
+          subst (λ (k : ℕ). IsPrecomputed (packets k) found) same
+          (subst (λ (y : Precomputed). IsPrecomputed (packets place) y) is right)
     ]
   ];
 }

@@ -37,16 +37,3 @@ pub record ArePrecomputed (packets : ℕ → List ℕ) (values : List (Option Pr
 pub record IsAskedIn (questions : List (Option Question)) (one : Asked) : Type 0 where
   pub within : one.place < length questions
   pub there : get_or questions one.place None ≡ Some one.question.now
-
--- this answers the question at a place
-pub record IsAnswer (questions : List (Option Question)) (i : ℕ) (found : Precomputed) : Type 0 where
-  pub question : Question
-  pub there : get_or questions i None ≡ Some question
-  pub key : found.key ≡ question.association.now.key
-  pub extended : found.extended ≡ question.association.now.extended
-  pub number : found.number ≡ question.number
-  pub value : found.value ≡ asked_value question
-
--- each value answers the question at its place
-pub record AreAnswers (questions : List (Option Question)) (values : List (Option Precomputed)) : Type 0 where
-  pub each : (i : ℕ) (found : Precomputed) → get_or values i None ≡ Some found → IsAnswer questions i found

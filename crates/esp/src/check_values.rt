@@ -12,8 +12,8 @@ use lanes::{Task, icv_all};
 /// How many ICVs are computed at once.
 pub const GROUP: usize = 64;
 
-/// How many packets a short list has, so many as there are lanes. Its array of tasks is as short, and where
-/// one SA opens it all its arrays are: to fill longer ones would take up to a tenth of its time.
+/// How many packets a short list has, so many as there are lanes. Its arrays are as short: to fill longer ones
+/// would take up to a tenth of its time.
 pub const FEW: usize = 8;
 
 /// Writes the ICVs of packets that lie one after the other and carry these payloads, with the sequence
@@ -32,13 +32,38 @@ pub fn write_check_values(
     ensures { packets.new ≡ with_values (covered_sizes payloads.now)
         (values_in association.now last (covered_sizes payloads.now) packets.old) packets.old }
 {
-    let mut values = [[0; CHECK]; GROUP];
+    if payloads.len() <= FEW {
+        write_by_lanes::<FEW>(association, last, payloads, packets, least);
+    } else {
+        write_by_lanes::<GROUP>(association, last, payloads, packets, least);
+    }
+}
+
+// The same with arrays for `N` packets. Not inlined, so that a short list doesn't clear the long ones.
+#[inline(never)]
+fn write_by_lanes<const N: usize>(
+    association: &Sa,
+    last: u64,
+    payloads: &[&[u8]],
+    packets: &mut [u8],
+    least: usize,
+)
+    requires group { N ≤ GROUP }
+    requires few { length payloads.now ≤ N }
+    requires fit { (i : ℕ) → i < length payloads.now → FitsPacket (get_or (payloads_of payloads.now) i []) }
+    requires numbers { 1 ≤ length payloads.now → last + length payloads.now < 2 ^ 64 }
+    requires size { packets_size (covered_sizes payloads.now) ≤ length packets.old }
+    ensures { packets.new ≡ with_values (covered_sizes payloads.now)
+        (values_in association.now last (covered_sizes payloads.now) packets.old) packets.old }
+{
     let count = payloads.len();
+    let halves = high_halves::<N>(last, count);
+    let mut values = [[0; CHECK]; N];
     compute_all(
         association,
-        last,
         payloads,
         packets,
+        &halves,
         &mut values[..count],
         least,
     );
@@ -48,24 +73,24 @@ pub fn write_check_values(
 // Computes the ICV of each packet. A short list has a short array of tasks.
 fn compute_all(
     association: &Sa,
-    last: u64,
     payloads: &[&[u8]],
     packets: &[u8],
+    halves: &[[u8; 4]],
     values: &mut [[u8; CHECK]],
     least: usize,
 )
     requires few { length payloads.now ≤ GROUP }
+    requires halves { length payloads.now ≤ length halves.now }
     requires fit { (i : ℕ) → i < length payloads.now → FitsPacket (get_or (payloads_of payloads.now) i []) }
-    requires numbers { last + length payloads.now < 2 ^ 64 }
     requires size { packets_size (covered_sizes payloads.now) ≤ length packets.now }
     requires places { length values.old ≡ length payloads.now }
-    ensures { values.new ≡ values_in association.now last (covered_sizes payloads.now) packets.now }
+    ensures { (last : ℕ) → AreHighHalves last (length payloads.now) halves.now
+        → values.new ≡ values_in association.now last (covered_sizes payloads.now) packets.now }
 {
-    let halves = high_halves(last, payloads.len());
     if payloads.len() <= FEW {
-        compute_few(association, payloads, packets, &halves, values, least);
+        compute_few(association, payloads, packets, halves, values, least);
     } else {
-        compute_group(association, payloads, packets, &halves, values, least);
+        compute_group(association, payloads, packets, halves, values, least);
     }
 }
 
@@ -74,11 +99,12 @@ fn compute_few<'a>(
     association: &'a Sa,
     payloads: &[&[u8]],
     packets: &'a [u8],
-    halves: &'a [[u8; 4]; GROUP],
+    halves: &'a [[u8; 4]],
     values: &mut [[u8; CHECK]],
     least: usize,
 )
     requires few { length payloads.now ≤ FEW }
+    requires halves { length payloads.now ≤ length halves.now }
     requires fit { (i : ℕ) → i < length payloads.now → FitsPacket (get_or (payloads_of payloads.now) i []) }
     requires size { packets_size (covered_sizes payloads.now) ≤ length packets.now }
     requires places { length values.old ≡ length payloads.now }
@@ -96,11 +122,12 @@ fn compute_group<'a>(
     association: &'a Sa,
     payloads: &[&[u8]],
     packets: &'a [u8],
-    halves: &'a [[u8; 4]; GROUP],
+    halves: &'a [[u8; 4]],
     values: &mut [[u8; CHECK]],
     least: usize,
 )
     requires few { length payloads.now ≤ GROUP }
+    requires halves { length payloads.now ≤ length halves.now }
     requires fit { (i : ℕ) → i < length payloads.now → FitsPacket (get_or (payloads_of payloads.now) i []) }
     requires size { packets_size (covered_sizes payloads.now) ≤ length packets.now }
     requires places { length values.old ≡ length payloads.now }
@@ -119,9 +146,9 @@ fn set_tasks<'a>(
     association: &'a Sa,
     payloads: &[&[u8]],
     packets: &'a [u8],
-    halves: &'a [[u8; 4]; GROUP],
+    halves: &'a [[u8; 4]],
 )
-    requires few { length payloads.now ≤ GROUP }
+    requires halves { length payloads.now ≤ length halves.now }
     requires places { length payloads.now ≤ length tasks.old }
     requires fit { (i : ℕ) → i < length payloads.now → FitsPacket (get_or (payloads_of payloads.now) i []) }
     requires size { packets_size (covered_sizes payloads.now) ≤ length packets.now }
@@ -139,12 +166,13 @@ fn set_tasks<'a>(
 }
 
 // The high halves of so many sequence numbers after `last`.
-fn high_halves(last: u64, count: usize) -> [[u8; 4]; GROUP]
-    requires few { count ≤ GROUP }
-    requires numbers { last + count < 2 ^ 64 }
-    ensures { AreHighHalves last count result }
+fn high_halves<const N: usize>(last: u64, count: usize) -> [[u8; 4]; N]
+    requires few { count ≤ N }
+    requires numbers { 1 ≤ count → last + count < 2 ^ 64 }
+    ensures halves { AreHighHalves last count result }
+    ensures long { length result ≡ N }
 {
-    let mut halves = [[0; 4]; GROUP];
+    let mut halves = [[0; 4]; N];
     for place in 0..count {
         halves[place] = high_half(last + 1 + place as u64);
     }

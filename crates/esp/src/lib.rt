@@ -45,9 +45,9 @@ mod precomputed;
 mod progress;
 mod sa;
 
-pub use check_values::GROUP;
+pub use check_values::{FEW, GROUP};
 pub use fault::{EspFault, ListFault, ListStop};
 pub use inbound::{Inbound, Opened};
 pub use load::PACKETS_LEAST;
 pub use outbound::Outbound;
-pub use precomputed::{Precomputed, Question, precompute};
+pub use precomputed::{Precomputed, Question, no_values, precompute, value_at};

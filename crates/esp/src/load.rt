@@ -7,8 +7,8 @@ use std::convert::AsSlice;
 /// From how many packets of one length on ICVs are computed side by side, where nothing else is said: right
 /// for x86-64-v2.
 ///
-/// One more than in `lanes`, whose own limit of 5 counts the hashing alone. Here the arrays of a group, as
-/// long for six packets as for 64, are counted in, and of a list that is opened that each packet's sequence
+/// One more than in `lanes`, whose own limit of 5 counts the hashing alone. Here the arrays of a list, as
+/// long for six packets as for eight, are counted in, and of a list that is opened that each packet's sequence
 /// number is judged once more.
 pub const PACKETS_LEAST: usize = 6;
 

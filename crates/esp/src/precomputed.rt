@@ -1,10 +1,10 @@
 //! ICVs of received packets, of one SA or of several, computed side by side before the packets are opened.
-ghost use Rattle.std.specs.Prelude.{◌≡◌, ℕ, ◌<◌, ◌≤◌, All, IfSome, IsTrue, List, Option, length, map, take};
+ghost use Rattle.std.specs.Prelude.{◌≡◌, ℕ, ◌<◌, ◌≤◌, All, IfSome, IsTrue, List, None, Option, get_or, length, map, take};
 ghost use Rattle.std.specs.Int.{from_le_bytes, w128};
 ghost use Rattle.lanes.specs.Task.{icv_of};
 ghost use Rattle.esp.specs.declared.precomputed.Question.{Question};
 ghost use Rattle.esp.specs.Ahead.{IsAhead};
-ghost use Rattle.esp.specs.Precomputed.{AreAnswers, ArePrecomputed, AreQuestions, IsAskedIn, IsPrecomputed, IsQuestion, asked_value, value_of_asked};
+ghost use Rattle.esp.specs.Precomputed.{ArePrecomputed, AreQuestions, IsAskedIn, IsPrecomputed, IsQuestion, asked_value, value_of_asked};
 
 use crate::ahead::Ahead;
 use crate::check_values::{FEW, GROUP};
@@ -125,20 +125,42 @@ fn half_of(octets: &[u8]) -> u128
     u128::from_le_bytes(half)
 }
 
-/// The ICVs that are asked for, each at the place of its question, where it gains time to compute them side
-/// by side: from `least` packets of one length on. Takes no memory.
-pub fn precompute(questions: &[Option<Question<'_>>], least: usize) -> [Option<Precomputed>; GROUP]
-    requires few { length questions.now ≤ GROUP }
-    ensures { (packets : ℕ → List ℕ) → AreQuestions packets questions.now
-        → ArePrecomputed packets result }
+/// Room for `N` ICVs, with none in it yet: [`precompute`] sets them.
+pub fn no_values<const N: usize>() -> [Option<Precomputed>; N]
+    ensures none { (packets : ℕ → List ℕ) → ArePrecomputed packets result }
+    ensures long { length result ≡ N }
 {
-    let mut answers = [None; GROUP];
+    [None; N]
+}
+
+/// Sets the ICVs that are asked for, each at the place of its question, where it gains time to compute them
+/// side by side: from `least` packets of one length on. Values that were right stay right. Takes no memory.
+pub fn precompute(
+    questions: &[Option<Question<'_>>],
+    values: &mut [Option<Precomputed>],
+    least: usize,
+)
+    requires few { length questions.now ≤ GROUP }
+    requires room { length questions.now ≤ length values.old }
+    ensures right { (packets : ℕ → List ℕ) → AreQuestions packets questions.now
+        → ArePrecomputed packets values.old → ArePrecomputed packets values.new }
+    ensures long { length values.new ≡ length values.old }
+{
     if questions.len() <= FEW {
-        answer_few(questions, &mut answers, least);
+        answer_few(questions, values, least);
     } else {
-        answer_group(questions, &mut answers, least);
+        answer_group(questions, values, least);
     }
-    answers
+}
+
+/// The ICV at a place, if there is one.
+pub fn value_at(values: &[Option<Precomputed>], place: usize) -> Option<Precomputed>
+    ensures { result ≡ get_or values.now place None }
+{
+    match values.get(place) {
+        Some(found) => *found,
+        None => None,
+    }
 }
 
 // Sets the answers to a few questions, where that gains time.
@@ -149,8 +171,8 @@ fn answer_few<'a>(
 )
     requires few { length questions.now ≤ FEW }
     requires room { length questions.now ≤ length answers.old }
-    requires none { AreAnswers questions.now answers.old }
-    ensures answers { AreAnswers questions.now answers.new }
+    ensures right { (packets : ℕ → List ℕ) → AreQuestions packets questions.now
+        → ArePrecomputed packets answers.old → ArePrecomputed packets answers.new }
     ensures long { length answers.new ≡ length answers.old }
 {
     let Some(first) = first_of(questions) else {
@@ -180,8 +202,8 @@ fn answer_group<'a>(
 )
     requires few { length questions.now ≤ GROUP }
     requires room { length questions.now ≤ length answers.old }
-    requires none { AreAnswers questions.now answers.old }
-    ensures answers { AreAnswers questions.now answers.new }
+    ensures right { (packets : ℕ → List ℕ) → AreQuestions packets questions.now
+        → ArePrecomputed packets answers.old → ArePrecomputed packets answers.new }
     ensures long { length answers.new ≡ length answers.old }
 {
     let Some(first) = first_of(questions) else {
@@ -244,8 +266,9 @@ fn set_tasks<'a>(tasks: &mut [Task<'a>], asked: &[Asked<'a>])
 fn set_answers(answers: &mut [Option<Precomputed>], asked: &[Asked<'_>], values: &[[u8; CHECK]])
     requires places { All (λ one. one.place < length answers.old) asked.now }
     requires right { values.now ≡ map value_of_asked asked.now }
-    ensures answers { (questions : List (Option Question)) → All (IsAskedIn questions) asked.now
-        → AreAnswers questions answers.old → AreAnswers questions answers.new }
+    ensures right { (packets : ℕ → List ℕ) (questions : List (Option Question))
+        → AreQuestions packets questions → All (IsAskedIn questions) asked.now
+        → ArePrecomputed packets answers.old → ArePrecomputed packets answers.new }
     ensures long { length answers.new ≡ length answers.old }
 {
     for (turn, one) in asked.iter().enumerate() {

@@ -619,7 +619,7 @@ sealed_is_protected {C} meaning_of p child number octets is says = seals p child
 same_passage : {C : Type 0} (p q : Passage C) → Some p ≡ Some q → p ≡ q
 same_passage {C} p q is = cc
 
-machine_config : (meaning : Meaning) (entries : List Entry) (view : ike.InputView) (old : Machine) (table : Database) (s : Stepped) (new : Machine) (new_table : Database) → ike.Steps meaning entries view old table s new new_table → new.config ≡ old.config
+pub machine_config : (meaning : Meaning) (entries : List Entry) (view : ike.InputView) (old : Machine) (table : Database) (s : Stepped) (new : Machine) (new_table : Database) → ike.Steps meaning entries view old table s new new_table → new.config ≡ old.config
 machine_config meaning entries (ike.Message from octets fresh) old table s new new_table is = ap (λ (m : Machine). m.config) is.0
 machine_config meaning entries (ike.Start serial place fresh) old table s new new_table is = ap (λ (m : Machine). m.config) is.0
 machine_config meaning entries (ike.Order what fresh) old table s new new_table is = ap (λ (m : Machine). m.config) is.0

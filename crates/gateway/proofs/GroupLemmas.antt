@@ -1,8 +1,8 @@
 -- Inputs that are taken in groups, with ICVs that were computed ahead.
-use Rattle.std.proofs.Common.{◌≡◌, ◌≢◌, ◌+◌, ◌<◌, ◌≤◌, ◌++◌, ℕ, List, length, map, take, drop, get_or, refl, sym, ap, ◌∙◌, subst, arith, inl, inr, append_assoc, Option, Some, None, length-drop}
+use Rattle.std.proofs.Common.{◌≡◌, ◌≢◌, ◌+◌, ◌<◌, ◌≤◌, ◌++◌, ℕ, List, length, map, take, drop, get_or, refl, sym, ap, ◌∙◌, subst, arith, min, inl, inr, append_assoc, Option, Some, None, length-drop}
 use Rattle.std.specs.Prelude.{IfSome, replicate}
 use Rattle.std.proofs.lemmas.Bool.{cases_lt}
-use Rattle.std.proofs.lemmas.List.{drop-take, length-take-le, take-append-drop, take-take, get_or-set_same, get_or-set_other, get_or-replicate, get_or_past, length-replicate}
+use Rattle.std.proofs.lemmas.List.{drop-take, length-take-le, take-append-drop, take-take, get_or-set_same, get_or-set_other, get_or-replicate, get_or-take, get_or_past, length-replicate, length-take}
 use Rattle.std.proofs.lemmas.Option.{slice_get-get_or}
 use Rattle.std.proofs.Math.ListN.{set}
 use Rattle.base.specs.Octets.{Octets}
@@ -46,6 +46,20 @@ none_in n i = elim (cases_lt i n) [
 -- where nothing was asked yet
 pub none_asked : (packets : ℕ → Octets) (n : ℕ) → AreQuestions packets (replicate n None)
 none_asked packets n = record { each = λ i question there. (let nothing = none_in n i in absurd (cc)) }
+
+below_end : (xs : List (Option Question)) (n i : ℕ) (question : Question) → get_or (take n xs) i None ≡ Some question → i < n
+below_end xs n i question there = elim (cases_lt i n) [
+  | inl below ↦ below
+  | inr past ↦
+      let nothing : get_or (take n xs) i None ≡ None = get_or_past (take n xs) i None (omega (arith, length-take n xs)) in
+      absurd (cc)
+]
+
+-- of the first so many
+pub asked_front : (packets : ℕ → Octets) (questions : List (Option Question)) (n : ℕ) → AreQuestions packets questions → AreQuestions packets (take n questions)
+asked_front packets questions n asked = record {
+  each = λ i question there. asked.each i question (sym (get_or-take n questions i None (below_end questions n i question there)) ∙ there);
+}
 
 is_about : (P : Question → Type 0) (o : Option Question) (question : Question) → IfSome o P → o ≡ Some question → P question
 is_about P o question all is = subst (λ (x : Option Question). IfSome x P) is all

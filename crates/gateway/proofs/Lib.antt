@@ -12,6 +12,9 @@ mod FittingLemmas
 mod DeterminedSteps
 pub mod ToldLemmas
 pub mod HistoryLemmas
+mod ConfiguredLemmas
+mod StayingLemmas
+mod ReplyLemmas
 mod RequestLemmas
 mod MomentLemmas
 mod AuthenticationLemmas

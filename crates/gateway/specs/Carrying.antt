@@ -161,7 +161,7 @@ pub record SealsWhatIsProtected {C : Type 0} (child number : ℕ) (octets : Octe
 -- ---- what is promised of a list
 
 -- Over these steps, from this state on to that one, packets are carried for the authenticated alone. The
--- first asks that each SA pair is of an established IKE SA before the list, as in a new gateway, and it is
+-- first asks that each SA pair is of an established IKE SA before the list, as in every gateway, and it is
 -- so after it: calls in a row keep it. Of a new gateway each peer proved itself at a step of the list, and
 -- each Child SA was made at one.
 pub record OnlyTheAuthenticatedCarry {C : Type 0} (meaning_of : C → Meaning) (old : State C) (passages : List (Passage C)) (new : State C) : Type 0 where

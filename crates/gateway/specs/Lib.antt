@@ -22,6 +22,7 @@ pub mod Storing
 pub mod Contents
 pub mod Lengths
 pub mod Histories
+pub mod Staying
 pub mod Requests
 pub mod Lines
 pub mod Moments

@@ -25,8 +25,9 @@ state_code {C} machine table entries caller =
     (λ c. record { machine = c.0; table = c.1.0; entries = c.1.1.0; caller = c.1.1.1 })
     (λ _. refl)
 
--- The invariant of every gateway: the machine and the table satisfy theirs; all that is due by the greatest
--- time so far was done; and each SPI that is reserved is held by an IKE SA, so none is lost.
+-- The invariant of a gateway's parts: the machine and the table satisfy theirs; all that is due by the greatest
+-- time so far was done; and each SPI that is reserved is held by an IKE SA, so none is lost. What holds beside it
+-- of every gateway is in `Staying`.
 pub record IsSoundState {C : Type 0} (s : State C) : Type 0 where
   pub machine : IsSoundMachine s.machine s.table
   pub table : IsSoundTable s.table

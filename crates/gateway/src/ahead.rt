@@ -1,43 +1,14 @@
 //! ICVs of the ESP packets of a group of inputs, computed side by side before any of the inputs is taken.
-ghost use Rattle.std.specs.Prelude.{◌≡◌, ◌≤◌, None, get_or, length, map};
+ghost use Rattle.std.specs.Prelude.{◌≡◌, ◌≤◌, length, map};
 ghost use Rattle.esp.specs.Precomputed.{ArePrecomputed, AreQuestions};
 ghost use Rattle.gateway.specs.Groups.{packets_in};
 ghost use Rattle.gateway.specs.Inputs.{input_view};
 
 use crate::Input;
 use crate::load::Load;
-use esp::{GROUP, Precomputed, Question, precompute};
+use esp::{FEW, GROUP, Precomputed, Question, precompute};
 use sadb::Table;
 use traffic::question;
-
-/// ICVs of the ESP packets among some inputs, made by [`Gateway::ahead`](crate::Gateway::ahead).
-#[derive(Clone, Copy)]
-pub struct Ahead {
-    values: [Option<Precomputed>; GROUP],
-}
-
-impl Ahead {
-    pub(crate) fn of(table: &Table, inputs: &[Input<'_>], least: usize) -> Ahead
-        requires { length inputs.now ≤ GROUP }
-        ensures { ArePrecomputed (packets_in (map input_view inputs.now)) result.values }
-    {
-        if !gain_ahead(inputs, least) {
-            return Ahead {
-                values: [None; GROUP],
-            };
-        }
-        Ahead {
-            values: precompute(&questions_of(table, inputs), least),
-        }
-    }
-
-    /// The ICV that was computed ahead for the input at a place, if there is one.
-    pub fn at(&self, place: usize) -> Option<Precomputed>
-        ensures { result ≡ get_or self.now.values place None }
-    {
-        value_at(&self.values, place)
-    }
-}
 
 /// Whether the ESP packets among some inputs gain by ICVs computed ahead, where lists begin lanes at `least`
 /// packets.
@@ -51,27 +22,73 @@ pub fn gain_ahead(inputs: &[Input<'_>], least: usize) -> bool {
     load.gains(least)
 }
 
-// What the ICVs are computed from, by the table as it is at the group's beginning.
-fn questions_of<'a>(table: &'a Table, inputs: &[Input<'a>]) -> [Option<Question<'a>>; GROUP]
-    requires { length inputs.now ≤ GROUP }
-    ensures questions { AreQuestions (packets_in (map input_view inputs.now)) result }
-    ensures few { length result ≡ GROUP }
+/// Sets the ICVs of the ESP packets among some inputs, each at its input's place.
+pub fn set_ahead<'a>(
+    table: &'a Table,
+    inputs: &[Input<'a>],
+    values: &mut [Option<Precomputed>],
+    least: usize,
+)
+    requires few { length inputs.now ≤ GROUP }
+    requires room { length inputs.now ≤ length values.old }
+    ensures right { ArePrecomputed (packets_in (map input_view inputs.now)) values.old
+        → ArePrecomputed (packets_in (map input_view inputs.now)) values.new }
+    ensures long { length values.new ≡ length values.old }
+{
+    if inputs.len() <= FEW {
+        set_few(table, inputs, values, least);
+    } else {
+        set_group(table, inputs, values, least);
+    }
+}
+
+// The same of a few inputs.
+fn set_few<'a>(
+    table: &'a Table,
+    inputs: &[Input<'a>],
+    values: &mut [Option<Precomputed>],
+    least: usize,
+)
+    requires few { length inputs.now ≤ FEW }
+    requires room { length inputs.now ≤ length values.old }
+    ensures right { ArePrecomputed (packets_in (map input_view inputs.now)) values.old
+        → ArePrecomputed (packets_in (map input_view inputs.now)) values.new }
+    ensures long { length values.new ≡ length values.old }
+{
+    let mut questions = [None; FEW];
+    set_questions(table, inputs, &mut questions);
+    precompute(&questions[..inputs.len()], values, least);
+}
+
+// The same of a group of inputs. Not inlined, so that a few don't clear its array.
+#[inline(never)]
+fn set_group<'a>(
+    table: &'a Table,
+    inputs: &[Input<'a>],
+    values: &mut [Option<Precomputed>],
+    least: usize,
+)
+    requires few { length inputs.now ≤ GROUP }
+    requires room { length inputs.now ≤ length values.old }
+    ensures right { ArePrecomputed (packets_in (map input_view inputs.now)) values.old
+        → ArePrecomputed (packets_in (map input_view inputs.now)) values.new }
+    ensures long { length values.new ≡ length values.old }
 {
     let mut questions = [None; GROUP];
+    set_questions(table, inputs, &mut questions);
+    precompute(&questions[..inputs.len()], values, least);
+}
+
+// Sets what the ICVs are computed from, by the table as it is at the group's beginning.
+fn set_questions<'a>(table: &'a Table, inputs: &[Input<'a>], questions: &mut [Option<Question<'a>>])
+    requires room { length inputs.now ≤ length questions.old }
+    ensures questions { AreQuestions (packets_in (map input_view inputs.now)) questions.old
+        → AreQuestions (packets_in (map input_view inputs.now)) questions.new }
+    ensures long { length questions.new ≡ length questions.old }
+{
     for (place, input) in inputs.iter().enumerate() {
         if let Input::Esp { octets } = *input {
             questions[place] = question(table, octets);
         }
-    }
-    questions
-}
-
-/// The ICV that was computed ahead for the packet at a place, if there is one.
-pub fn value_at(ahead: &[Option<Precomputed>], place: usize) -> Option<Precomputed>
-    ensures { result ≡ get_or ahead.now place None }
-{
-    match ahead.get(place) {
-        Some(found) => *found,
-        None => None,
     }
 }

@@ -19,7 +19,7 @@ pub use packets::{
 pub use runs::{
     every_run_keeps_its_promises, runs_in_a_row_are_one_run,
     the_established_of_new_gateways_proved_themselves, the_premises_of_packets_are_met,
-    the_premises_of_requests_are_met,
+    the_premises_of_requests_are_met, what_every_gateway_has_stays,
 };
 pub use steps::{
     nothing_comes_before_the_next_moment, refusals_change_nothing, steps_are_determined,

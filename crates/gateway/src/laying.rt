@@ -4,10 +4,9 @@ ghost use Rattle.esp.specs.Precomputed.{ArePrecomputed, AreQuestions, IsPrecompu
 ghost use Rattle.gateway.specs.Laying.{finished_output, finished_outputs, laid_at, octets_in};
 
 use crate::Output;
-use crate::ahead::value_at;
 use crate::load::Load;
 use base::Items;
-use esp::{GROUP, Precomputed, Question, precompute};
+use esp::{FEW, GROUP, Precomputed, Question, no_values, precompute, value_at};
 use sadb::Table;
 use std::mem;
 
@@ -17,12 +16,25 @@ pub fn finish_all(table: &Table, laid: &mut [Output<'_>], least: usize)
     requires { length laid.old ≤ GROUP }
     ensures { laid.new ≡ finished_outputs table.now.pairs laid.old }
 {
-    if gain_side_by_side(laid, least) {
-        let ahead = precompute(&questions_of(table, laid), least);
-        finish_with(table, laid, &ahead);
-    } else {
+    if !gain_side_by_side(laid, least) {
         finish_with(table, laid, &[]);
+    } else if laid.len() <= FEW {
+        finish_by_lanes::<FEW>(table, laid, least);
+    } else {
+        finish_by_lanes::<GROUP>(table, laid, least);
     }
+}
+
+// The same side by side, with room for `N` ICVs. Not inlined, so that a few don't clear the long array.
+#[inline(never)]
+fn finish_by_lanes<const N: usize>(table: &Table, laid: &mut [Output<'_>], least: usize)
+    requires group { N ≤ GROUP }
+    requires few { length laid.old ≤ N }
+    ensures { laid.new ≡ finished_outputs table.now.pairs laid.old }
+{
+    let mut values = no_values::<N>();
+    set_values(table, laid, &mut values, least);
+    finish_with(table, laid, &values);
 }
 
 fn gain_side_by_side(laid: &[Output<'_>], least: usize) -> bool {
@@ -35,13 +47,71 @@ fn gain_side_by_side(laid: &[Output<'_>], least: usize) -> bool {
     load.gains(least)
 }
 
-// What the ICVs are computed from.
-fn questions_of<'a>(table: &'a Table, laid: &'a [Output<'_>]) -> [Option<Question<'a>>; GROUP]
-    requires { length laid.now ≤ GROUP }
-    ensures questions { AreQuestions (laid_at laid.now) result }
-    ensures few { length result ≡ GROUP }
+// Sets the ICVs, each at its output's place.
+fn set_values<'a>(
+    table: &'a Table,
+    laid: &'a [Output<'_>],
+    values: &mut [Option<Precomputed>],
+    least: usize,
+)
+    requires few { length laid.now ≤ GROUP }
+    requires room { length laid.now ≤ length values.old }
+    ensures right { ArePrecomputed (laid_at laid.now) values.old
+        → ArePrecomputed (laid_at laid.now) values.new }
+{
+    if laid.len() <= FEW {
+        set_few(table, laid, values, least);
+    } else {
+        set_group(table, laid, values, least);
+    }
+}
+
+// The same of a few outputs.
+fn set_few<'a>(
+    table: &'a Table,
+    laid: &'a [Output<'_>],
+    values: &mut [Option<Precomputed>],
+    least: usize,
+)
+    requires few { length laid.now ≤ FEW }
+    requires room { length laid.now ≤ length values.old }
+    ensures right { ArePrecomputed (laid_at laid.now) values.old
+        → ArePrecomputed (laid_at laid.now) values.new }
+{
+    let mut questions = [None; FEW];
+    set_questions(table, laid, &mut questions);
+    precompute(&questions[..laid.len()], values, least);
+}
+
+// The same of a group of outputs. Not inlined, so that a few don't clear its array.
+#[inline(never)]
+fn set_group<'a>(
+    table: &'a Table,
+    laid: &'a [Output<'_>],
+    values: &mut [Option<Precomputed>],
+    least: usize,
+)
+    requires few { length laid.now ≤ GROUP }
+    requires room { length laid.now ≤ length values.old }
+    ensures right { ArePrecomputed (laid_at laid.now) values.old
+        → ArePrecomputed (laid_at laid.now) values.new }
 {
     let mut questions = [None; GROUP];
+    set_questions(table, laid, &mut questions);
+    precompute(&questions[..laid.len()], values, least);
+}
+
+// Sets what the ICVs are computed from.
+fn set_questions<'a>(
+    table: &'a Table,
+    laid: &'a [Output<'_>],
+    questions: &mut [Option<Question<'a>>],
+)
+    requires room { length laid.now ≤ length questions.old }
+    ensures questions { AreQuestions (laid_at laid.now) questions.old
+        → AreQuestions (laid_at laid.now) questions.new }
+    ensures long { length questions.new ≡ length questions.old }
+{
     for (place, output) in laid.iter().enumerate() {
         if let Output::Sealed {
             child,
@@ -52,7 +122,6 @@ fn questions_of<'a>(table: &'a Table, laid: &'a [Output<'_>]) -> [Option<Questio
             questions[place] = table.question(*child, *number, octets.as_slice());
         }
     }
-    questions
 }
 
 // Writes the ICVs, with those that were computed ahead.

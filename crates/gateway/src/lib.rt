@@ -259,7 +259,6 @@ mod transmit;
 mod world;
 
 // What a host needs to make a gateway, to read its outputs, and to name its refusals.
-pub use ahead::Ahead;
 pub use association::{Association, MessageFault};
 pub use auth::{Identity, IdentityFault};
 pub use base::{Address, Items, PrefixFault, Range, Selector};

@@ -2,8 +2,11 @@
 
 use esp::PACKETS_LEAST;
 
-// To clear the arrays for a group's ICVs takes as long as so many blocks of SHA-256, or somewhat less.
-const ARRAY_BLOCKS: usize = 8;
+// Eight lanes take as long as five thirds of one packet alone, at x86-64-v3.
+const LANE_THIRDS: usize = 5;
+
+// What is done beside the hashing takes as long as so many blocks of SHA-256, or somewhat less.
+const SETUP_BLOCKS: usize = 3;
 
 /// What the ICVs of some packets take, in blocks of SHA-256.
 #[derive(Clone, Copy)]
@@ -32,11 +35,13 @@ impl Load {
         self.most = blocks.max(self.most);
     }
 
-    /// Whether the arrays of a group may be worth their time, where lists begin lanes at `least` packets. From
-    /// six packets on `esp` alone judges. Two take less time one by one, and so do three to five short ones.
+    /// Whether lanes may gain, where lists begin them at `least` packets. From six packets on `esp` alone
+    /// judges. Of fewer, all together, less the setup, must take as long one by one as the longest does in
+    /// lanes. So two short ones go one by one.
     pub fn gains(&self, least: usize) -> bool {
         self.packets >= least
             && (self.packets >= PACKETS_LEAST
-                || self.all >= self.most.saturating_mul(least).saturating_add(ARRAY_BLOCKS))
+                || self.all.saturating_sub(SETUP_BLOCKS).saturating_mul(3)
+                    >= self.most.saturating_mul(LANE_THIRDS))
     }
 }

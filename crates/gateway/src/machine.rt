@@ -9,24 +9,28 @@ ghost use Rattle.ike.specs.Soundness.{AreReservationsHeld, IsSoundMachine};
 ghost use Rattle.ike.specs.Outputs.{no_trace};
 ghost use Rattle.esp.specs.Precomputed.{ArePrecomputed, IsPrecomputed};
 ghost use Rattle.sadb.specs.Laying.{KeepsSenders};
+ghost use Rattle.gateway.specs.Carrying.{EachPairIsOfAnEstablished};
 ghost use Rattle.gateway.specs.Groups.{packet_in, packets_in};
 ghost use Rattle.gateway.specs.Inputs.{Outward, input_view};
+ghost use Rattle.gateway.specs.Inside.{LiesInside};
 ghost use Rattle.gateway.specs.Laying.{finished_output, finished_outputs};
 ghost use Rattle.gateway.specs.Lengths.{AreGiven};
 ghost use Rattle.gateway.specs.Once.{HasOneResult};
 ghost use Rattle.gateway.specs.Outputs.{output_view};
+ghost use Rattle.gateway.specs.Staying.{RepliesAreKept, WindowsAreConfigured};
 ghost use Rattle.gateway.specs.Rows.{AppendsTo, finished_row, octets_of};
 ghost use Rattle.gateway.specs.States.{new_gateway};
 ghost use Rattle.gateway.specs.Steps.{Steps, Traces};
 ghost use Rattle.effects.specs.Taking.{meaning_of};
 ghost use Rattle.moments.specs.Next.{NothingIsDueBefore, SomethingIsDue};
 
+use crate::ahead::{gain_ahead, set_ahead};
 use crate::given::{tell_their_lengths, tells_its_lengths};
-use crate::laws::steps_are_determined;
+use crate::laws::{steps_are_determined, what_every_gateway_has_stays};
 use crate::laying::finish_all;
 use crate::row::finish_row;
 use crate::stepping::{lay, lay_behind, take};
-use crate::{Ahead, Input, Laid, Output, Span, Traced};
+use crate::{Input, Laid, Output, Span, Traced};
 use association::Association;
 use esp::{GROUP, PACKETS_LEAST, Precomputed};
 use flows::FlowMemory;
@@ -61,6 +65,7 @@ impl<C> Model for Gateway<C> {
     ghost use Rattle.ike.specs.Moments.{IsTimely};
     ghost use Rattle.ike.specs.Soundness.{AreReservationsHeld, IsSoundMachine};
     ghost use Rattle.sadb.specs.Database.{database_code};
+    ghost use Rattle.gateway.specs.Staying.{HasWhatStays};
     ghost use Rattle.gateway.specs.States.{State, state_code};
 
     ghost Value = { State C };
@@ -70,7 +75,8 @@ impl<C> Model for Gateway<C> {
     ghost view = { λ g. record { machine = g.ike; table = g.table; entries = g.policy; caller = g.caller } };
 
     ghost invariant = { λ g. IsSoundMachine g.ike g.table × IsTimely g.ike × AreReservationsHeld g.ike.held g.table
-        × AllRight g.policy g.table.pairs g.flows };
+        × AllRight g.policy g.table.pairs g.flows
+        × HasWhatStays (record { machine = g.ike; table = g.table; entries = g.policy; caller = g.caller }) };
 }
 
 impl<C> Gateway<C> {
@@ -93,10 +99,10 @@ impl<C> Gateway<C> {
         }
     }
 
-    /// Has lists of so many packets or more have their ICVs computed side by side, where they are alike, and
-    /// of fewer than six where these are long enough to be worth a group's arrays. 2 is right in a build for
-    /// x86-64-v3. Without it lists begin at [`PACKETS_LEAST`](esp::PACKETS_LEAST), which
-    /// is right for x86-64-v2. Time alone depends on it.
+    /// Has lists of so many packets or more have their ICVs computed side by side, where they are alike. Of
+    /// two to five packets that is so only where they are long enough to gain. 2 is right in a build for
+    /// x86-64-v3. Without it lists begin at [`PACKETS_LEAST`](esp::PACKETS_LEAST), which is right for
+    /// x86-64-v2. Time alone depends on it.
     pub fn begin_lanes_at(&mut self, packets: usize)
         ensures { self.new ≡ self.old }
     {
@@ -148,14 +154,24 @@ impl<C> Gateway<C> {
         self.ike.next_moment()
     }
 
-    /// The invariant of every gateway, as a function that does nothing. Machine and table satisfy theirs.
-    /// Nothing is overdue at the greatest time so far. Each SPI that is reserved in the table is held by an
-    /// IKE SA, for a Child SA that it asked for.
+    /// The invariant of every gateway, as a function that does nothing.
+    ///
+    /// - Machine and table satisfy theirs. Nothing is overdue at the greatest time so far.
+    /// - Each SPI that is reserved in the table is held by an IKE SA, for a Child SA that it asked for.
+    /// - Each SA pair is of an IKE SA that is held and established.
+    /// - The selectors of each SA pair, and of each Child SA that is asked for, lie inside one entry that
+    ///   protects.
+    /// - Of each IKE SA with keys the responses are kept that the peer may still ask for.
+    /// - The window of an established IKE SA is the configuration's.
     pub fn invariants_hold(&self)
         ensures machine { IsSoundMachine self.now.machine self.now.table }
         ensures table { IsSoundTable self.now.table }
         ensures timely { IsTimely self.now.machine }
         ensures reservations { AreReservationsHeld self.now.machine.held self.now.table }
+        ensures standing { EachPairIsOfAnEstablished self.now }
+        ensures inside { LiesInside self.now }
+        ensures replies { RepliesAreKept self.now.machine.held }
+        ensures windows { WindowsAreConfigured self.now.machine }
     {
         self.table.invariants_hold();
     }
@@ -204,14 +220,32 @@ impl<C: Sealer + Agreement + Proof> Gateway<C> {
         self.traced_step_ahead(alloc, input, None)
     }
 
-    /// ICVs of the ESP packets among up to 64 inputs, computed side by side, where that is faster, from the
-    /// table as it is now: for packets whose SA pair is there and whose sequence number is not taken. For
-    /// [`traced_step_ahead`](Gateway::traced_step_ahead). Takes no memory.
-    pub fn ahead(&self, inputs: &[Input<'_>]) -> Ahead
-        requires { length inputs.now ≤ GROUP }
-        ensures { ArePrecomputed (packets_in (map input_view inputs.now)) result.values }
+    /// Sets the ICVs of the ESP packets among up to 64 inputs, each at its input's place. They are computed
+    /// side by side where that is faster, from the table as it is now. A packet has one only where its SA
+    /// pair is there and its sequence number is not taken. For
+    /// [`traced_step_ahead`](Gateway::traced_step_ahead). The places begin as [`no_values`](esp::no_values).
+    /// Takes no memory.
+    pub fn compute_ahead(&self, inputs: &[Input<'_>], values: &mut [Option<Precomputed>])
+        requires few { length inputs.now ≤ GROUP }
+        requires room { length inputs.now ≤ length values.old }
+        ensures right { ArePrecomputed (packets_in (map input_view inputs.now)) values.old
+            → ArePrecomputed (packets_in (map input_view inputs.now)) values.new }
+        ensures long { length values.new ≡ length values.old }
     {
-        Ahead::of(&self.table, inputs, self.lanes)
+        if gain_ahead(inputs, self.lanes) {
+            self.set_ahead(inputs, values);
+        }
+    }
+
+    // The same, where the caller has found that they gain (`gain_ahead`).
+    pub(crate) fn set_ahead(&self, inputs: &[Input<'_>], values: &mut [Option<Precomputed>])
+        requires few { length inputs.now ≤ GROUP }
+        requires room { length inputs.now ≤ length values.old }
+        ensures right { ArePrecomputed (packets_in (map input_view inputs.now)) values.old
+            → ArePrecomputed (packets_in (map input_view inputs.now)) values.new }
+        ensures long { length values.new ≡ length values.old }
+    {
+        set_ahead(&self.table, inputs, values, self.lanes);
     }
 
     /// One step as [`traced_step`](Gateway::traced_step), with an ESP packet's ICV where that was computed
@@ -228,6 +262,8 @@ impl<C: Sealer + Agreement + Proof> Gateway<C> {
             (meaning_of C.Sealer C.Agreement C.Proof self.old.caller)
             (input_view input.now) self.old (output_view result.output) result.trace self.new }
     {
+        what_every_gateway_has_stays::<C>();
+        self.invariants_hold();
         take(
             alloc,
             input,
@@ -250,6 +286,8 @@ impl<C: Sealer + Agreement + Proof> Gateway<C> {
             no_trace self.new }
         ensures senders { KeepsSenders self.old.table.pairs self.new.table.pairs }
     {
+        what_every_gateway_has_stays::<C>();
+        self.invariants_hold();
         lay(
             alloc,
             packet,
@@ -290,6 +328,8 @@ impl<C: Sealer + Agreement + Proof> Gateway<C> {
         ensures senders { KeepsSenders self.old.table.pairs self.new.table.pairs }
         ensures room { vec_len out.old + (length packet.now + 29) ≤ vec_capacity out.old → IsOk result }
     {
+        what_every_gateway_has_stays::<C>();
+        self.invariants_hold();
         lay_behind(
             packet,
             &self.ike,

@@ -1,9 +1,11 @@
 //! A list of inputs.
 ghost use Rattle.std.specs.Prelude.{◌≡◌, ◌+◌, ◌≤◌, OnOk, IfErr, IfSome, IsOk, length, map, vec_len};
 ghost use Rattle.std.specs.Vec.{vec_capacity};
-ghost use Rattle.esp.specs.Precomputed.{IsPrecomputed};
-ghost use Rattle.gateway.specs.Groups.{TakesFirst, packet_in};
+ghost use Rattle.esp.specs.Precomputed.{ArePrecomputed, IsPrecomputed};
+ghost use Rattle.gateway.specs.Carrying.{EachPairIsOfAnEstablished};
+ghost use Rattle.gateway.specs.Groups.{TakesFirst, packet_in, packets_in};
 ghost use Rattle.gateway.specs.Inputs.{input_view};
+ghost use Rattle.gateway.specs.Inside.{LiesInside};
 ghost use Rattle.gateway.specs.Laying.{TakesNext, finished_from};
 ghost use Rattle.gateway.specs.LeavingOut.{HasOneResultWithout};
 ghost use Rattle.gateway.specs.Runs.{RunsFirst, Stops};
@@ -12,7 +14,7 @@ ghost use Rattle.effects.specs.Taking.{meaning_of};
 use crate::ahead::gain_ahead;
 use crate::laws::{every_run_keeps_its_promises, what_has_no_effect_can_be_left_out};
 use crate::{Gateway, Input, Output, RunFault};
-use esp::{GROUP, Precomputed};
+use esp::{FEW, GROUP, Precomputed, no_values, value_at};
 use std::alloc::Global;
 use suite::{Agreement, Proof, Sealer};
 
@@ -45,10 +47,10 @@ use suite::{Agreement, Proof, Sealer};
 ///   one of these inputs, under the same keys.
 /// - Each SA pair, and each ESP packet that is accepted or sealed, is of an IKE SA that is established then:
 ///   since before the list, or since its peer proved itself by one of these inputs. Its Child SA was made
-///   under the same keys. Once that IKE SA is closed nothing more is carried for it. This asks that each pair
-///   is of an established IKE SA before the list, as in a new gateway, and leaves it so.
+///   under the same keys. Once that IKE SA is closed nothing more is carried for it. All this asks that
+///   each pair is of an established IKE SA before the list. That holds of every gateway (`standing`).
 /// - The selectors of each SA pair, and of each Child SA that is asked for, lie inside one entry that
-///   protects, if all did before the list.
+///   protects, as before the list (`inside`).
 /// - What comes in and passes no check under keys that are held changes nothing, but for IKE SAs that are
 ///   just beginning.
 /// - An input that is refused on allocation failure counts as lost.
@@ -70,10 +72,13 @@ pub fn run<'a, C: Sealer + Agreement + Proof>(
     ensures determined { HasOneResultWithout
         (meaning_of C.Sealer C.Agreement C.Proof)
         (map input_view inputs.now) gateway.old }
+    ensures standing { EachPairIsOfAnEstablished gateway.old }
+    ensures inside { LiesInside gateway.old }
 {
     every_run_keeps_its_promises::<C>();
     what_has_no_effect_can_be_left_out::<C>();
     gateway.tell_their_lengths(inputs);
+    gateway.invariants_hold();
     for group in 0..inputs.len().div_ceil(GROUP) {
         let start = GROUP * group;
         let count = (inputs.len() - start).min(GROUP);
@@ -87,11 +92,8 @@ pub fn run<'a, C: Sealer + Agreement + Proof>(
     Ok(())
 }
 
-// Takes a group of inputs in order, and returns how many it took. Reserves the place of an output before its
-// input. Most lists have few inputs and need no ICVs ahead.
-//
-// The ESP packets that were laid for the outputs from `start` on get their ICVs together: before an input of
-// another kind is taken, and where the list ends or has to stop.
+// Takes a group of inputs in order, and returns how many it took. Most lists have few inputs and need no ICVs
+// ahead.
 fn run_group<'a, C: Sealer + Agreement + Proof>(
     alloc: Global,
     gateway: &mut Gateway<C>,
@@ -107,21 +109,68 @@ fn run_group<'a, C: Sealer + Agreement + Proof>(
     ensures capacity { vec_capacity outputs.old ≤ vec_capacity outputs.new }
     ensures size { vec_len outputs.new ≡ vec_len outputs.old + result }
 {
-    let ahead = if gain_ahead(inputs, gateway.lanes()) {
-        Some(gateway.ahead(inputs))
+    if !gain_ahead(inputs, gateway.lanes()) {
+        return take_each(alloc, gateway, inputs, &[], outputs);
+    }
+    if inputs.len() <= FEW {
+        take_by_lanes::<FEW, C>(alloc, gateway, inputs, outputs)
     } else {
-        None
-    };
+        take_by_lanes::<GROUP, C>(alloc, gateway, inputs, outputs)
+    }
+}
+
+// The same with ICVs ahead, and with room for `N` of them. Not inlined, so that a few inputs don't clear the
+// long array.
+#[inline(never)]
+fn take_by_lanes<'a, const N: usize, C: Sealer + Agreement + Proof>(
+    alloc: Global,
+    gateway: &mut Gateway<C>,
+    inputs: &[Input<'a>],
+    outputs: &mut Vec<Output<'a>>,
+) -> usize
+    requires group { N ≤ GROUP }
+    requires few { length inputs.now ≤ N }
+    ensures first { TakesFirst
+        (meaning_of C.Sealer C.Agreement C.Proof)
+        result (map input_view inputs.now) gateway.old outputs.old.items gateway.new outputs.new.items }
+    ensures room { vec_len outputs.old + length inputs.now ≤ vec_capacity outputs.old
+        → result ≡ length inputs.now }
+    ensures capacity { vec_capacity outputs.old ≤ vec_capacity outputs.new }
+    ensures size { vec_len outputs.new ≡ vec_len outputs.old + result }
+{
+    let mut ahead = no_values::<N>();
+    gateway.set_ahead(inputs, &mut ahead);
+    take_each(alloc, gateway, inputs, &ahead, outputs)
+}
+
+// The same with those ICVs that were computed ahead. Reserves the place of an output before its input.
+//
+// The ESP packets that were laid for the outputs from `start` on get their ICVs together: before an input of
+// another kind is taken, and where the list ends or has to stop.
+fn take_each<'a, C: Sealer + Agreement + Proof>(
+    alloc: Global,
+    gateway: &mut Gateway<C>,
+    inputs: &[Input<'a>],
+    ahead: &[Option<Precomputed>],
+    outputs: &mut Vec<Output<'a>>,
+) -> usize
+    requires few { length inputs.now ≤ GROUP }
+    requires ahead { ArePrecomputed (packets_in (map input_view inputs.now)) ahead.now }
+    ensures first { TakesFirst
+        (meaning_of C.Sealer C.Agreement C.Proof)
+        result (map input_view inputs.now) gateway.old outputs.old.items gateway.new outputs.new.items }
+    ensures room { vec_len outputs.old + length inputs.now ≤ vec_capacity outputs.old
+        → result ≡ length inputs.now }
+    ensures capacity { vec_capacity outputs.old ≤ vec_capacity outputs.new }
+    ensures size { vec_len outputs.new ≡ vec_len outputs.old + result }
+{
     let mut start = outputs.len();
     for (done, input) in inputs.iter().enumerate() {
         if outputs.reserve(1).is_err() {
             gateway.finish(&mut outputs[start..]);
             return done;
         }
-        let value = match &ahead {
-            Some(ahead) => ahead.at(done),
-            None => None,
-        };
+        let value = value_at(ahead, done);
         start = take_next(alloc, gateway, input, value, outputs, start);
     }
     if start < outputs.len() {

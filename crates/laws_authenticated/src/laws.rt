@@ -58,8 +58,8 @@ pub fn pairs_belong_to_the_established<C>()
 /// - The Child SA was there before the list; or at an earlier step a datagram made it, of that IKE SA and
 ///   under the same keys of it. Ever since the IKE SA has been established.
 ///
-/// It asks that each pair is of an established IKE SA before the list, as in a new gateway, and leaves it
-/// so: calls in a row keep it (`known`). Of a new gateway both were steps of the list (`proved`).
+/// It asks that each pair is of an established IKE SA before the list, as in every gateway, and leaves it
+/// so (`known`). Of a new gateway both were steps of the list (`proved`).
 /// Configuration, policy and provider are those of the beginning before each step (`settings`). A packet is
 /// sealed only for one that was given to go out and that the policy protects (`sealed`).
 pub fn only_the_authenticated_carry<C>()
@@ -120,8 +120,8 @@ pub fn at_each_end_only_the_authenticated_carry<C>()
 ///   a Child SA whose pair stands and names another IKE SA (`accepted`, `said`);
 /// - no Child SA whose pair ever named it has a pair, a packet that is accepted, or such an output (`own`).
 ///
-/// It asks that each pair is of an established IKE SA before the list (`closed`), as in a new gateway
-/// (`begun`), and after every list from one on. So it is at either end of a world, over its own steps
+/// It asks that each pair is of an established IKE SA before the list (`closed`), as in every gateway
+/// (of a new one `begun`), and after every list from one on. So it is at either end of a world, over its own steps
 /// (`at_each_end`). While a command to delete an IKE SA waits for its answer, that one isn't closed yet.
 pub fn a_closed_association_carries_nothing_more<C>()
     ensures closed { (meaning_of : C → Meaning) (inputs : List Input) (outputs : List Output)

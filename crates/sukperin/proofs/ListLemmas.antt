@@ -14,7 +14,7 @@ use Rattle.gateway.specs.Inputs.{input_view}
 use Rattle.gateway.specs.Runs.{Runs}
 use Rattle.gateway.specs.declared.input.Input.{Input}
 use borrow.Rule.Slice.PartMut.{put_mid}
-use Rattle.sukperin.specs.Lists.{AreInputsAt, LiesIn, OpensAll, RunsOver, packet_at}
+use Rattle.sukperin.specs.Lists.{AreInputsAt, AreValuesAt, LiesIn, OpensAll, RunsOver, packet_at}
 use Rattle.sukperin.specs.declared.end.End.{End}
 use Rattle.sukperin.specs.declared.end.End.TheVariants.{Gateway, Receiver, Sender}
 use Rattle.sukperin.specs.declared.hosted.Hosted.{Hosted}
@@ -32,13 +32,19 @@ packet_of inputs k d within =
     ap packet_if (slice_get-get_or (map input_view inputs) k (input_view (get_or inputs k d)) (omega (arith, length-map inputs input_view)))
     ∙ ap packet_in (get_or-map input_view inputs k d (input_view (get_or inputs k d)) within)
 
+-- values that were computed from inputs are those of the packets at their places
+pub values_at_places : (octets : Octets) (places : List SukPlace) (inputs : List Input) (values : List (Option Precomputed)) → AreInputsAt octets places (length places) inputs
+    → ArePrecomputed (packets_in (map input_view inputs)) values → AreValuesAt octets places values
+values_at_places octets places inputs values inputs_are all = record {
+  each = λ k place found within is there lies. subst (λ (b : Octets). IsPrecomputed b found) (inputs_are.each k place within is lies) (all.each k found there);
+}
+
 -- the ICV at a place is that of the packet there
-pub value_at_place : (octets : Octets) (places : List SukPlace) (inputs : List Input) (values : List (Option Precomputed)) (k : ℕ) (place : SukPlace) (value : Option Precomputed)
-    → ArePrecomputed (packets_in (map input_view inputs)) values → AreInputsAt octets places (length places) inputs → k < length places → place ≡ get_or places k place
-    → value ≡ get_or values k None → LiesIn octets place → IfSome value (IsPrecomputed (packet_at octets place))
-value_at_place octets places inputs values k place value all inputs_are within is there lies =
-    if_found (IsPrecomputed (packet_at octets place)) value
-    (λ found e. subst (λ (b : Octets). IsPrecomputed b found) (inputs_are.each k place within is lies) (all.each k found (sym there ∙ e)))
+pub value_at_place : (octets : Octets) (places : List SukPlace) (values : List (Option Precomputed)) (k : ℕ) (place : SukPlace) (value : Option Precomputed)
+    → AreValuesAt octets places values → k < length places → place ≡ get_or places k place → value ≡ get_or values k None → LiesIn octets place
+    → IfSome value (IsPrecomputed (packet_at octets place))
+value_at_place octets places values k place value all within is there lies =
+    if_found (IsPrecomputed (packet_at octets place)) value (λ found e. all.each k place found within is (sym there ∙ e) lies)
 
 -- one input more
 pub input_more : (octets : Octets) (places : List SukPlace) (inputs : List Input) (turn : ℕ) (place : SukPlace) (v : Input)

@@ -1,6 +1,8 @@
 -- What calls with lists of packets do: one step after the other, in the order of the places.
-use Rattle.std.specs.Prelude.{◌≡◌, ◌⊎◌, ◌+◌, ◌<◌, ◌≤◌, ◌++◌, ◌∷◌, ℕ, List, Option, Some, [], length, map, take, drop, slice_index_or}
+use Rattle.std.specs.Prelude.{◌≡◌, ◌⊎◌, ◌+◌, ◌<◌, ◌≤◌, ◌++◌, ◌∷◌, ℕ, List, Option, Some, None, [], get_or, length, map, take, drop, slice_index_or}
 use Rattle.base.specs.Octets.{Octets}
+use Rattle.esp.specs.Precomputed.{IsPrecomputed}
+use Rattle.esp.specs.declared.precomputed.Precomputed.{Precomputed}
 use Rattle.caller_peer.specs.declared.shared_key.PeerCaller.{PeerCaller}
 use Rattle.gateway.specs.Groups.{packets_in}
 use Rattle.gateway.specs.Inputs.{Esp, Outward, input_view}
@@ -44,6 +46,11 @@ pub record IsPacketAt (octets : Octets) (place : SukPlace) (packet : Octets) : T
 -- each of the first so many inputs is the packet at its place, where that lies in the buffer
 pub record AreInputsAt (octets : Octets) (places : List SukPlace) (count : ℕ) (inputs : List lent.Input) : Type 0 where
   pub each : (k : ℕ) (place : SukPlace) → k < count → place ≡ slice_index_or places k place → LiesIn octets place → packets_in (map input_view inputs) k ≡ packet_at octets place
+
+-- each value is the ICV of the packet at its place
+pub record AreValuesAt (octets : Octets) (places : List SukPlace) (values : List (Option Precomputed)) : Type 0 where
+  pub each : (k : ℕ) (place : SukPlace) (found : Precomputed) → k < length places → place ≡ slice_index_or places k place → get_or values k None ≡ Some found → LiesIn octets place
+      → IsPrecomputed (packet_at octets place) found
 
 -- a step for each place, in their order, and its record; the records behind them are as they were
 pub record RunsOver {S : Type 0} (step : SukPlace → S → SukOutput → S → Type 0) (places : List SukPlace) (old : S) (before : List SukOutput) (new : S) (after : List SukOutput) : Type 0 where

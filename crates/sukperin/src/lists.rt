@@ -3,7 +3,7 @@ ghost use Rattle.std.specs.Prelude.{◌≡◌, ◌+◌, ◌≤◌, IfErr, IfOk, 
 ghost use Rattle.esp.specs.Precomputed.{IsPrecomputed};
 ghost use Rattle.gateway.specs.Inputs.{Esp, input_view};
 ghost use Rattle.gateway.specs.Runs.{Runs};
-ghost use Rattle.sukperin.specs.Lists.{AreInputsAt, IsPacketAt, IsPlaceRefusal, LaysGroup, LaysNext};
+ghost use Rattle.sukperin.specs.Lists.{AreInputsAt, AreValuesAt, IsPacketAt, IsPlaceRefusal, LaysGroup, LaysNext};
 ghost use Rattle.sukperin.specs.Lists.{LiesIn, OpensAll, OpensBy, RunsOver, SealsAll, SealsBy, TakesEsp};
 ghost use Rattle.sukperin.specs.Lists.{TakesEspAt, TakesOutGroup, TakesOutOver, no_span, packet_at};
 ghost use Rattle.sukperin.specs.Lists.{span_of_laid, told_of_laid};
@@ -18,7 +18,7 @@ use crate::refusal::Refusal;
 use crate::room::write_front;
 use base::Items;
 use caller_peer::PeerCaller;
-use esp::{GROUP, Precomputed};
+use esp::{FEW, GROUP, Precomputed, no_values, value_at};
 use gateway::{Gateway, Input, Laid, Reason, Span};
 use std::alloc::Global;
 use std::mem;
@@ -148,7 +148,7 @@ fn open_groups(
     for group in 0..places.len().div_ceil(GROUP) {
         let start = GROUP * group;
         let count = (places.len() - start).min(GROUP);
-        open_group(
+        open_next(
             alloc,
             gateway,
             octets,
@@ -159,6 +159,46 @@ fn open_groups(
 }
 
 // Takes up to 64 ESP packets in order.
+fn open_next(
+    alloc: Global,
+    gateway: &mut Gateway<PeerCaller>,
+    octets: &[u8],
+    places: &[SukPlace],
+    outs: &mut [SukOutput],
+)
+    requires few { length places.now ≤ GROUP }
+    requires records { length outs.old ≡ length places.now }
+    ensures { Runs (TakesEspAt octets.now) places.now outs.new gateway.old gateway.new }
+{
+    if places.len() <= FEW {
+        open_few(alloc, gateway, octets, places, outs);
+    } else {
+        open_group(alloc, gateway, octets, places, outs);
+    }
+}
+
+// The same of a few packets.
+fn open_few(
+    alloc: Global,
+    gateway: &mut Gateway<PeerCaller>,
+    octets: &[u8],
+    places: &[SukPlace],
+    outs: &mut [SukOutput],
+)
+    requires few { length places.now ≤ FEW }
+    requires records { length outs.old ≡ length places.now }
+    ensures { Runs (TakesEspAt octets.now) places.now outs.new gateway.old gateway.new }
+{
+    let mut ahead = no_values::<FEW>();
+    let mut inputs = [no_packet(octets); FEW];
+    let inputs = &mut inputs[..places.len()];
+    set_inputs(octets, places, inputs);
+    gateway.compute_ahead(inputs, &mut ahead);
+    open_each(alloc, gateway, octets, places, &ahead, outs);
+}
+
+// The same of more packets. Not inlined, so that a few don't clear its arrays.
+#[inline(never)]
 fn open_group(
     alloc: Global,
     gateway: &mut Gateway<PeerCaller>,
@@ -170,10 +210,29 @@ fn open_group(
     requires records { length outs.old ≡ length places.now }
     ensures { Runs (TakesEspAt octets.now) places.now outs.new gateway.old gateway.new }
 {
-    let inputs = inputs_at(octets, places);
-    let ahead = gateway.ahead(&inputs);
+    let mut ahead = no_values::<GROUP>();
+    let mut inputs = [no_packet(octets); GROUP];
+    let inputs = &mut inputs[..places.len()];
+    set_inputs(octets, places, inputs);
+    gateway.compute_ahead(inputs, &mut ahead);
+    open_each(alloc, gateway, octets, places, &ahead, outs);
+}
+
+// Takes ESP packets in order, with those ICVs that were computed ahead.
+fn open_each(
+    alloc: Global,
+    gateway: &mut Gateway<PeerCaller>,
+    octets: &[u8],
+    places: &[SukPlace],
+    ahead: &[Option<Precomputed>],
+    outs: &mut [SukOutput],
+)
+    requires ahead { AreValuesAt octets.now places.now ahead.now }
+    requires records { length outs.old ≡ length places.now }
+    ensures { Runs (TakesEspAt octets.now) places.now outs.new gateway.old gateway.new }
+{
     for (turn, place) in places.iter().enumerate() {
-        outs[turn] = open_one(alloc, gateway, octets, place, ahead.at(turn));
+        outs[turn] = open_one(alloc, gateway, octets, place, value_at(ahead, turn));
     }
 }
 
@@ -208,19 +267,22 @@ fn open_packet(
     SukOutput::of(&traced.output, &traced.trace)
 }
 
-// The input at each of up to 64 places, for what is computed ahead.
-fn inputs_at<'a>(octets: &'a [u8], places: &[SukPlace]) -> [Input<'a>; GROUP]
-    requires { length places.now ≤ GROUP }
-    ensures each { AreInputsAt octets.now places.now (length places.now) result }
-    ensures few { length result ≡ GROUP }
+// Sets the input at each place, for what is computed ahead.
+fn set_inputs<'a>(octets: &'a [u8], places: &[SukPlace], inputs: &mut [Input<'a>])
+    requires { length inputs.old ≡ length places.now }
+    ensures each { AreInputsAt octets.now places.now (length places.now) inputs.new }
+    ensures long { length inputs.new ≡ length inputs.old }
 {
-    let mut inputs = [Input::Esp {
-        octets: &octets[..0],
-    }; GROUP];
     for (turn, place) in places.iter().enumerate() {
         inputs[turn] = input_at(octets, place);
     }
-    inputs
+}
+
+// An ESP packet of no octets.
+fn no_packet<'a>(octets: &'a [u8]) -> Input<'a> {
+    Input::Esp {
+        octets: &octets[..0],
+    }
 }
 
 // The input at a place; a packet of no octets where that doesn't lie in the buffer.
@@ -229,9 +291,7 @@ fn input_at<'a>(octets: &'a [u8], place: &SukPlace) -> Input<'a>
 {
     match place.packet_in(octets) {
         Some(packet) => Input::Esp { octets: packet },
-        None => Input::Esp {
-            octets: &octets[..0],
-        },
+        None => no_packet(octets),
     }
 }
 
@@ -321,8 +381,33 @@ fn seal_group(
     ensures { TakesOutGroup octets.now places.now used gateway.old room.old result gateway.new outs.new
         room.new }
 {
+    if places.len() <= FEW {
+        seal_with::<FEW>(gateway, octets, places, room, used, outs, buffer)
+    } else {
+        seal_with::<GROUP>(gateway, octets, places, room, used, outs, buffer)
+    }
+}
+
+// The same with spans for `N` packets. Not inlined, so that a few packets don't clear the long array.
+#[inline(never)]
+fn seal_with<const N: usize>(
+    gateway: &mut Gateway<PeerCaller>,
+    octets: &[u8],
+    places: &[SukPlace],
+    room: &mut [u8],
+    used: usize,
+    outs: &mut [SukOutput],
+    buffer: &mut Vec<u8>,
+) -> usize
+    requires group { N ≤ GROUP }
+    requires few { length places.now ≤ N }
+    requires records { length outs.old ≡ length places.now }
+    requires within { used ≤ length room.old }
+    ensures { TakesOutGroup octets.now places.now used gateway.old room.old result gateway.new outs.new
+        room.new }
+{
     buffer.clear();
-    let mut spans = [nothing(); GROUP];
+    let mut spans = [nothing(); N];
     lay_group(
         gateway, octets, places, room, used, outs, &mut spans, buffer,
     );

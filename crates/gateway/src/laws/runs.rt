@@ -1,5 +1,6 @@
 //! What is promised of runs, over however many inputs and calls, and that what they ask for is met.
 ghost use Rattle.gateway.specs.LawsOfRuns.{CallsInARowAreOneRun, CallsInARowKeepTheirPromises, EveryRunKeepsItsPromises, HistoriesInARowAreOneHistory, RunsInARowAreOneRun, TheEstablishedOfNewGatewaysProvedThemselves, ThePremisesOfPacketsAreMet, ThePremisesOfRequestsAreMet};
+ghost use Rattle.gateway.specs.Staying.{WhatEveryGatewayHasStays};
 
 use crate::laws::refusals_change_nothing;
 use association::laws::receptions_say_why;
@@ -59,6 +60,22 @@ pub fn every_run_keeps_its_promises<C>()
     a_packet_takes_one_number();
     sadb::laws::later_tables_follow();
     an_spi_names_one_pair();
+}
+
+/// Each step leaves four things so.
+///
+/// - Each SA pair is of an IKE SA that is held and established.
+/// - The selectors of each SA pair, and of each Child SA that is asked for, lie inside one entry that protects.
+/// - Of each IKE SA with keys the responses are kept that the peer may still ask for (RFC 7296, section 2.3).
+/// - The window of an established IKE SA is the configuration's.
+pub fn what_every_gateway_has_stays<C>()
+    ensures { WhatEveryGatewayHasStays C }
+{
+    every_run_keeps_its_promises::<C>();
+    ike::laws::requests_are_remembered();
+    ike::laws::requests_take_effect();
+    ike::laws::steps_keep_their_laws();
+    ike::laws::traces_name_what_is_held();
 }
 
 /// So over a list that is given to a new gateway the peer of each IKE SA that is established proved

@@ -4,7 +4,7 @@ use Rattle.esp.proofs.LayingLemmas.{half_more}
 use Rattle.esp.proofs.check_values.high_halves.Goals as goal
 
 pub loop-place-preserved : goal.loop-place-preserved
-loop-place-preserved c =
+loop-place-preserved g c =
     let i = c.loop-place.invariant in
     record {
       long = length-set c.loop-place.halves c.loop-place.place c.high_half.result ∙ i.long;

@@ -3,7 +3,7 @@ use Rattle.esp.specs.Laying.{AreHighHalves}
 use Rattle.esp.proofs.check_values.high_halves.Given as goal
 
 abbrev pub invariant-loop-place : goal.invariant-loop-place
-invariant-loop-place l = record {
-  long : length l.halves ≡ 64;
+invariant-loop-place g l = record {
+  long : length l.halves ≡ g.row.N;
   are : AreHighHalves l.last l.place l.halves;
 }

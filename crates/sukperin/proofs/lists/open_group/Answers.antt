@@ -1,38 +1,11 @@
-use Rattle.std.proofs.Common.{◌≡◌, ◌<◌, List, length, take, get_or, arith, subst}
-use Rattle.std.proofs.lemmas.List.{get_or_default, take_all}
-use Rattle.gateway.specs.Runs.{Runs}
-use Rattle.sukperin.specs.Lists.{TakesEspAt}
-use Rattle.sukperin.specs.declared.lists.SukPlace.{SukPlace}
-use Rattle.sukperin.specs.declared.output.SukOutput.{SukOutput}
-use Rattle.sukperin.proofs.ListLemmas.{run_next, value_at_place}
+use Rattle.std.proofs.Common.{map}
+use Rattle.gateway.specs.Groups.{packets_in}
+use Rattle.gateway.specs.Inputs.{input_view}
+use Rattle.sukperin.proofs.ListLemmas.{values_at_places}
 use Rattle.sukperin.proofs.lists.open_group.Goals as goal
 
-pub open_one-requires : goal.open_one-requires
-open_one-requires c =
-    let places = c.args.places.now in
-    let turn = c.loop-turn.turn in
-    let there = c.loop-turn-test.true in
-    let place : SukPlace = get_or places turn (record { offset = 0; length = 0 }) in
-    value_at_place c.args.octets.now places c.inputs_at-inputs.result c.ahead-ahead.result.values turn place c.at.result c.ahead-ahead.ensures c.inputs_at-inputs.ensures.each there
-    (get_or_default places turn (record { offset = 0; length = 0 }) place there) c.at.ensures
-
-pub loop-turn-preserved : goal.loop-turn-preserved
-loop-turn-preserved c =
-    let places = c.args.places.now in
-    let turn = c.loop-turn.turn in
-    let there = c.loop-turn-test.true in
-    let place : SukPlace = get_or places turn (record { offset = 0; length = 0 }) in
-    let long : turn < length c.loop-turn.outs = omega arith in
-    run_next (TakesEspAt c.args.octets.now) places c.loop-turn.outs c.args.gateway.now c.loop-turn.gateway c.open_one.new.gateway turn place c.open_one.result there long
-    (get_or_default places turn (record { offset = 0; length = 0 }) place there) c.loop-turn.invariant c.open_one.ensures
-
-pub returns : goal.returns
-returns c =
-    let places = c.args.places.now in
-    let outs = c.loop-turn.outs in
-    let turn = c.loop-turn.turn in
-    let step = TakesEspAt c.args.octets.now in
-    let all : take turn places ≡ places = take_all turn places (omega arith) in
-    let each : take turn outs ≡ outs = take_all turn outs (omega arith) in
-    subst (λ (ps : List SukPlace). Runs step ps outs c.args.gateway.now c.loop-turn.gateway) all
-    (subst (λ (os : List SukOutput). Runs step (take turn places) os c.args.gateway.now c.loop-turn.gateway) each c.loop-turn.invariant)
+pub open_each-requires-clause-ahead : goal.open_each-requires-clause-ahead
+open_each-requires-clause-ahead c =
+    let inputs = c.set_inputs.new.inputs in
+    values_at_places c.args.octets.now c.args.places.now inputs c.compute_ahead.new.values c.set_inputs.ensures.each
+    (c.compute_ahead.ensures.right (c.no_values-ahead.ensures.none (packets_in (map input_view inputs))))

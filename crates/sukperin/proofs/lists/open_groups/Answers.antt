@@ -25,8 +25,8 @@ loop-group-preserved c =
     let first : RunsOver step (take at places) c.args.gateway.now c.args.outs.now c.loop-group.gateway c.loop-group.outs =
     subst (λ (n : ℕ). RunsOver step (take n places) c.args.gateway.now c.args.outs.now c.loop-group.gateway c.loop-group.outs) done c.loop-group.invariant
     in
-    let more = group_over step places c.args.gateway.now c.loop-group.gateway c.open_group.new.gateway c.args.outs.now c.loop-group.outs c.open_group.new.outs at size within first c.open_group.ensures in
-    subst (λ (n : ℕ). RunsOver step (take n places) c.args.gateway.now c.args.outs.now c.open_group.new.gateway (put_mid at size c.loop-group.outs c.open_group.new.outs)) after more
+    let more = group_over step places c.args.gateway.now c.loop-group.gateway c.open_next.new.gateway c.args.outs.now c.loop-group.outs c.open_next.new.outs at size within first c.open_next.ensures in
+    subst (λ (n : ℕ). RunsOver step (take n places) c.args.gateway.now c.args.outs.now c.open_next.new.gateway (put_mid at size c.loop-group.outs c.open_next.new.outs)) after more
 
 pub returns : goal.returns
 returns c =

@@ -1,12 +1,32 @@
-use Rattle.std.proofs.Common.{subst}
+use Rattle.std.proofs.Common.{sym, subst}
 use Rattle.effects.specs.Taking.{meaning_of}
 use Rattle.ike.specs.Outputs.{no_trace}
 use Rattle.gateway.specs.Inputs.{Outward}
 use Rattle.gateway.specs.Rows.{AppendsTo}
-use Rattle.gateway.specs.States.{State}
+use Rattle.gateway.specs.Staying.{HasWhatStays}
+use Rattle.gateway.specs.States.{IsSoundState, State}
 use Rattle.gateway.specs.Steps.{Traces}
+use Rattle.gateway.proofs.StayingLemmas.{stays_laid}
 use Rattle.gateway.proofs.RowLemmas.{traces_appended}
 use Rattle.gateway.proofs.machine.Gateway.lay_behind.Goals as goal
+
+pub invariant_of-self : goal.invariant_of-self
+invariant_of-self g c =
+    let i = c.self.inside in
+    let old : State g.row.C.Denot = record { machine = i.ike; table = i.table; entries = i.policy; caller = i.caller } in
+    let sound : IsSoundState old = subst (λ (s : State g.row.C.Denot). IsSoundState s) (sym c.self.view_is) (record {
+      machine = c.invariants_hold.ensures.machine;
+      table = c.invariants_hold.ensures.table;
+      timely = c.invariants_hold.ensures.timely;
+      reservations = c.invariants_hold.ensures.reservations;
+    }) in
+    let was : HasWhatStays old = subst (λ (s : State g.row.C.Denot). HasWhatStays s) (sym c.self.view_is) (record { standing = c.invariants_hold.ensures.standing; inside = c.invariants_hold.ensures.inside; replies = c.invariants_hold.ensures.replies; windows = c.invariants_hold.ensures.windows }) in (
+      c.lay_behind.ensures.sound,
+      c.self.invariant.1,
+      c.lay_behind.ensures.reservations,
+      c.lay_behind.ensures.right,
+      stays_laid (meaning_of g.C.Sealer g.C.Agreement g.C.Proof) c.what_every_gateway_has_stays.ensures c.args.packet.now c.args.out.now.items c.lay_behind.result old c.lay_behind.new.table c.lay_behind.new.out.items sound c.lay_behind.ensures.sent was,
+    )
 
 pub returns-clause-traced : goal.returns-clause-traced
 returns-clause-traced g c =

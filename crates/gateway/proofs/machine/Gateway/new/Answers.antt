@@ -5,6 +5,7 @@ use Rattle.sadb.specs.Database.{Database, IsReserved}
 use Rattle.ike.specs.Machines.{Machine}
 use Rattle.ike.specs.Moments.{IsTimely}
 use Rattle.ike.specs.Soundness.{AreReservationsHeld}
+use Rattle.gateway.proofs.StayingLemmas.{begins_so}
 use Rattle.gateway.proofs.WorkedLemmas.{none_reserved}
 use Rattle.gateway.proofs.machine.Gateway.new.Goals as goal
 
@@ -16,4 +17,5 @@ invariant_of-result g c =
       subst (λ (m : Machine). AreReservationsHeld m.held c.new-2.result) (sym c.new.ensures.content)
           (c.no_spi_is_lost.ensures.begun c.args.config c.new-2.result (λ spi there. none_reserved spi (none spi there))),
       c.answers_stay_right.ensures.none c.args.policy c.new-2.result.pairs c.new-3.result c.new-3.ensures,
+      begins_so c.args.config (record { machine = c.new.result; table = c.new-2.result; entries = c.args.policy; caller = c.args.caller }) c.args.start c.new.ensures.content c.new-2.ensures,
     )

@@ -1,0 +1,32 @@
+use Rattle.std.proofs.Common.{refl, sym, subst}
+use Rattle.effects.specs.Taking.{meaning_of}
+use Rattle.ike.specs.Outputs.{no_trace}
+use Rattle.gateway.specs.Inputs.{Outward}
+use Rattle.gateway.specs.Laying.{finished_output}
+use Rattle.gateway.specs.Outputs.{output_view}
+use Rattle.gateway.specs.Staying.{HasWhatStays}
+use Rattle.gateway.specs.States.{IsSoundState, State}
+use Rattle.gateway.specs.Steps.{Traces}
+use Rattle.gateway.proofs.machine.Gateway.lay.Goals as goal
+
+pub invariant_of-self : goal.invariant_of-self
+invariant_of-self g c =
+    let i = c.self.inside in
+    let old : State g.row.C.Denot = record { machine = i.ike; table = i.table; entries = i.policy; caller = i.caller } in
+    let sound : IsSoundState old = subst (λ (s : State g.row.C.Denot). IsSoundState s) (sym c.self.view_is) (record {
+      machine = c.invariants_hold.ensures.machine;
+      table = c.invariants_hold.ensures.table;
+      timely = c.invariants_hold.ensures.timely;
+      reservations = c.invariants_hold.ensures.reservations;
+    }) in
+    let was : HasWhatStays old = subst (λ (s : State g.row.C.Denot). HasWhatStays s) (sym c.self.view_is) (record { standing = c.invariants_hold.ensures.standing; inside = c.invariants_hold.ensures.inside; replies = c.invariants_hold.ensures.replies; windows = c.invariants_hold.ensures.windows }) in
+    let new : State g.row.C.Denot = record { machine = i.ike; table = c.lay.new.table; entries = i.policy; caller = i.caller } in
+    let said = finished_output c.lay.new.table.pairs c.lay.result in
+    let traces : Traces (meaning_of g.C.Sealer g.C.Agreement g.C.Proof i.caller) (Outward c.args.packet.now) old (output_view said) no_trace new =
+    record { kept = refl; does = (record { machine = refl; traced = refl }, c.lay.ensures.sent) } in (
+      c.lay.ensures.sound,
+      c.self.invariant.1,
+      c.lay.ensures.reservations,
+      c.lay.ensures.right,
+      c.what_every_gateway_has_stays.ensures (meaning_of g.C.Sealer g.C.Agreement g.C.Proof) (Outward c.args.packet.now) said no_trace old new sound traces was,
+    )
