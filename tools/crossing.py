@@ -3,14 +3,13 @@
 prefix; the same lists of 64 packets by Outbound::seal_all and Inbound::open_all (crates/tool_times); and by gateway::run (crates/tool_runs). All are for
 x86-64-v3.
 
-python3 tools/crossing.py PREFIX, where tools/library.sh laid the library out. Prints how many times as long the library takes, the median of five
-turns. Beside esp's lists a packet's flow is looked up, its selectors are compared, and a record is written; beside run's only the record is. Ends with
+python3 tools/crossing.py PREFIX, where tools/library.sh laid the library out. Prints how many times as long the library takes: each turn takes
+all, and of each the fastest counts, since whatever else runs only slows. Beside esp's lists a packet's flow is looked up, its selectors are compared, and a record is written; beside run's only the record is. Ends with
 status 1 where a list of 1,400 octets takes over MOST times as long as one of esp's, one of any length over MOST_RUN times as long as run's, or crossing
 itself finds something wrong.
 """
 import pathlib
 import re
-import statistics
 import subprocess
 import sys
 import tempfile
@@ -20,6 +19,7 @@ LENGTHS = (64, 576, 1400)
 WAYS = ("out", "in")
 MOST = 1.05
 MOST_RUN = 1.05
+TURNS = 15
 
 
 def built(name, *words):
@@ -42,8 +42,8 @@ def main():
         crossing = pathlib.Path(folder) / "crossing"
         include = library.parents[3] / "include"
         subprocess.run(["cc", "-O2", f"-I{include}", ROOT / "bindings/c/crossing.c", library, "-o", crossing], check=True)
-        ratios = {(length, way, beside): [] for length in LENGTHS for way in WAYS for beside in ("esp", "run")}
-        for _ in range(5):
+        fastest = {}
+        for _ in range(TURNS):
             ran = subprocess.run([crossing], capture_output=True, text=True)
             said = ran.stdout
             if ran.returncode:
@@ -52,11 +52,12 @@ def main():
                 length, _, _, out, came, *_ = map(float, line.split(" | "))
                 words = ("2", "200", "64", str(int(length)))
                 for way, task, time in (("out", "seal_all", out), ("in", "open_all", came)):
-                    ratios[length, way, "esp"].append(time / best(lists, task, *words))
-                    ratios[length, way, "run"].append(time / best(runs, f"{way}_all", *words))
+                    times = {"library": time, "esp": best(lists, task, *words), "run": best(runs, f"{way}_all", *words)}
+                    for which, nanoseconds in times.items():
+                        fastest[length, way, which] = min(nanoseconds, fastest.get((length, way, which), nanoseconds))
     print(said, end="")
     print("| Octets | Out, over seal_all | In, over open_all | Out, over run | In, over run |\n|---|---|---|---|---|")
-    found = {key: statistics.median(values) for key, values in ratios.items()}
+    found = {(*key, beside): fastest[*key, "library"] / fastest[*key, beside] for *key, beside in fastest if beside != "library"}
     for length in LENGTHS:
         print(f"| {length:,} | " + " | ".join(f"{found[length, way, beside]:.2f}" for beside in ("esp", "run") for way in WAYS) + " |")
     slow = [f"1,400 octets {way} beside esp's" for way in WAYS if found[1400, way, "esp"] > MOST]
