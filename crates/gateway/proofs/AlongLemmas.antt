@@ -40,7 +40,7 @@ behind {C} meaning_of [] old new trail place h there = absurd cc
 behind {C} meaning_of (x ∷ hs) old new trail zero h there = subst (λ (y : Happening C). Behind meaning_of y.after new) (same_happening x h there) (record { happenings = hs; trail = trail.2 })
 behind {C} meaning_of (x ∷ hs) old new trail (suc place) h there = behind meaning_of hs x.after new trail.2 place h there
 
-ahead : {C : Type 0} (meaning_of : C → Meaning) (hs : List (Happening C)) (old new : WorldState C) → IsWorldTrail meaning_of old hs new → (place : ℕ) (h : Happening C) → slice_get hs place ≡ Some h → Behind meaning_of old h.before
+pub ahead : {C : Type 0} (meaning_of : C → Meaning) (hs : List (Happening C)) (old new : WorldState C) → IsWorldTrail meaning_of old hs new → (place : ℕ) (h : Happening C) → slice_get hs place ≡ Some h → Behind meaning_of old h.before
 ahead {C} meaning_of [] old new trail place h there = absurd cc
 ahead {C} meaning_of (x ∷ hs) old new trail zero h there =
     subst (λ (y : Happening C). Behind meaning_of old y.before) (same_happening x h there) (record { happenings = []; trail = trail.0 })
@@ -61,7 +61,7 @@ between {C} meaning_of (x ∷ hs) old new trail (suc place) (suc later) h g less
 pub after_here : {C : Type 0} (meaning_of : C → Meaning) (h : Happening C) (t : TakesEvent meaning_of h.event h.before h.said h.after) → gateway_at h.event.end h.after ≡ t.gateway
 after_here {C} meaning_of h t = ap (λ (w : WorldState C). gateway_at h.event.end w) t.content ∙ gateway_here h.event.end t.gateway _ h.before
 
-after_there : {C : Type 0} (meaning_of : C → Meaning) (h : Happening C) (t : TakesEvent meaning_of h.event h.before h.said h.after) → gateway_at (other_end h.event.end) h.after ≡ gateway_at (other_end h.event.end) h.before
+pub after_there : {C : Type 0} (meaning_of : C → Meaning) (h : Happening C) (t : TakesEvent meaning_of h.event h.before h.said h.after) → gateway_at (other_end h.event.end) h.after ≡ gateway_at (other_end h.event.end) h.before
 after_there {C} meaning_of h t = ap (λ (w : WorldState C). gateway_at (other_end h.event.end) w) t.content ∙ gateway_there h.event.end t.gateway _ h.before
 
 -- of both ends, where it is of the one at which an event takes place, and of the other

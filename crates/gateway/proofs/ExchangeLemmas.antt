@@ -304,7 +304,7 @@ module _ {C : Type 0} (laws : RecordLaws) (meaning_of : C → Meaning) where
       → association_in t.gateway serial ≡ Some a
   there_of h t end serial a at there = ap (λ (s : State C). association_in s serial) (sym (here_of h t end at)) ∙ there
 
-  given_there : (h : Happening C) (t : TakesEvent meaning_of h.event h.before h.said h.after) (end : End) (serial : ℕ) (a : Association) → h.event.end ≡ end → association_in (gateway_at end h.after) serial ≡ Some a
+  pub given_there : (h : Happening C) (t : TakesEvent meaning_of h.event h.before h.said h.after) (end : End) (serial : ℕ) (a : Association) → h.event.end ≡ end → association_in (gateway_at end h.after) serial ≡ Some a
       → serial < (gateway_at end h.after).machine.held.next
   given_there h t end serial a at there = subst (λ (s : State C). serial < s.machine.held.next) (sym (here_of h t end at)) (given_by h t serial a (there_of h t end serial a at there))
 

@@ -43,8 +43,8 @@ pub record ChildrenAgree {C : Type 0} (keys : KeyRecord) (happenings : List (Hap
 -- A list of events keeps the whole invariant, where no message under the record was forged and neither end
 -- came to it twice. Then neither end assumes a wider window than the other is configured with, and the
 -- Child SAs agree. Whatever comes, a world accounts for its pairs, after each step too; what is delivered is
--- of a child that is stored; and no number of a child delivers twice. What one end sent as its request of
--- IKE_SA_INIT, and the other answered, gave both one record.
+-- of a child that is stored; and no number of a child delivers twice. Where one end's request of
+-- IKE_SA_INIT made the other's IKE SA, and its answer gave the first its keys, both hold one record at the end.
 pub record PromisesOfBothEnds {C : Type 0} (body_of : Keys → Octets → Octets → Octets → Octets) (plain_of : Opening) (meaning_of : C → Meaning) (happenings : List (Happening C)) (old new : WorldState C) : Type 0 where
   pub stays : (keys : KeyRecord) → IsWhollySound body_of plain_of keys old → IsUnforged meaning_of keys happenings new.stored → IsNeverMadeTwice keys new.stored
       → IsWhollySound body_of plain_of keys new

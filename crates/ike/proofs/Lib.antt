@@ -46,3 +46,4 @@ mod FirstSentLemmas
 mod RecordLemmas
 mod KeysComeLemmas
 mod OfferedLemmas
+mod ToldLemmas

@@ -1,5 +1,5 @@
 -- What an IKE SA was before a step, and how it came to be what it is after it.
-use Rattle.std.specs.Prelude.{◌≡◌, ◌⊎◌, ℕ, List, Option, Some, None, slice_get}
+use Rattle.std.specs.Prelude.{◌≡◌, ◌⊎◌, ℕ, List, Option, Some, None, slice_get, true}
 use Rattle.base.specs.Octets.{Octets}
 use Rattle.wire.specs.Messages.{Spells, SpellsPlainly}
 use Rattle.wire.specs.declared.message.Message.{Message as WireMessage}
@@ -12,6 +12,7 @@ use Rattle.sa_init.specs.Messages.{request_message}
 use Rattle.association.specs.Admitting.{Admits}
 use Rattle.association.specs.declared.admitting.Admitted.{Admitted}
 use Rattle.association.specs.declared.phase.Association.{Association}
+use Rattle.association.specs.declared.phase.AuthSent.{AuthSent}
 use Rattle.association.specs.declared.phase.InitSent.{InitSent}
 use Rattle.association.specs.declared.phase.Phase.TheVariants as phase
 use Rattle.moments.specs.Holding.{HoldsOn}
@@ -88,6 +89,16 @@ pub record WaitedBefore (was is : Association) (sent : InitSent) : Type 0 where
   pub spi_i : is.spi_i ≡ was.spi_i
   pub secret : sent.secret ≡ before.secret
   pub nonce : sent.nonce ≡ before.nonce
+
+-- it reads the response of IKE_SA_INIT now, which it keeps, and has keys with its own nonce
+pub record ReadsNow (view : InputView) (before : InitSent) (told : AuthSent) : Type 0 where
+  pub from : Octets
+  pub fresh : Fresh
+  pub came : view ≡ Message from told.first fresh
+  pub message : WireMessage
+  pub spelled : Spells message told.first
+  pub response : message.header.flags.response ≡ true
+  pub nonce : told.keys.nonce_i ≡ before.nonce
 
 -- these octets are a request of IKE_SA_INIT with this SPI, this nonce, and the public value of this secret
 pub record IsFirstRequest (meaning : Meaning) (spi : ℕ) (secret nonce octets : Octets) : Type 0 where

@@ -1,10 +1,14 @@
 -- What an IKE SA was before a step, and what its first request tells.
-use Rattle.std.specs.Prelude.{◌≡◌, ◌⊎◌, ◌≤◌, ℕ, Some}
+use Rattle.std.specs.Prelude.{◌≡◌, ◌⊎◌, ◌≤◌, ℕ, None, Some}
 use Rattle.base.specs.Octets.{Octets}
+use Rattle.initial.specs.Reading.{IsInitSent}
+use Rattle.association.specs.Phases.{keys_in}
 use Rattle.association.specs.declared.phase.Association.{Association}
+use Rattle.association.specs.declared.phase.AuthSent.{AuthSent}
+use Rattle.association.specs.declared.phase.HalfOpen.{HalfOpen}
 use Rattle.association.specs.declared.phase.InitSent.{InitSent}
 use Rattle.association.specs.declared.phase.Phase.TheVariants as phase
-use Rattle.ike.specs.Before.{CameNow, How, IsFirstRequest, WaitedBefore, WasThere}
+use Rattle.ike.specs.Before.{CameNow, How, IsFirstRequest, ReadsNow, WaitedBefore, WasThere}
 use Rattle.ike.specs.LawCases.{EachStep, IsStep}
 use Rattle.ike.specs.Machines.{association_of}
 use Rattle.ike.specs.Soundness.{IsSoundMachine}
@@ -38,3 +42,25 @@ WhoWaitsKeepsItsOffer = EachStep (λ it. (was is : Association) (sent : InitSent
     → How it.meaning it.entries it.input it.old it.table it.new.held it.new_table was is
     → is.phase ≡ phase.InitSent sent
     → WaitedBefore was is sent)
+
+-- ---- who_asks_has_read
+abbrev pub WhoAsksHasRead : Type 0
+WhoAsksHasRead = EachStep (λ it. (was is : Association) (before : InitSent) (told : AuthSent)
+    → How it.meaning it.entries it.input it.old it.table it.new.held it.new_table was is
+    → was.phase ≡ phase.InitSent before
+    → is.phase ≡ phase.AuthSent told
+    → ReadsNow it.input before told)
+
+abbrev pub WhoAsksWithoutKeysWaited : Type 0
+WhoAsksWithoutKeysWaited = EachStep (λ it. (was is : Association) (told : AuthSent)
+    → How it.meaning it.entries it.input it.old it.table it.new.held it.new_table was is
+    → is.phase ≡ phase.AuthSent told
+    → keys_in was.phase ≡ None
+    → IsInitSent was.phase)
+
+-- ---- who_is_half_open_was_so
+abbrev pub WhoIsHalfOpenWasSo : Type 0
+WhoIsHalfOpenWasSo = EachStep (λ it. (was is : Association) (opened : HalfOpen)
+    → How it.meaning it.entries it.input it.old it.table it.new.held it.new_table was is
+    → is.phase ≡ phase.HalfOpen opened
+    → was.phase ≡ phase.HalfOpen opened)

@@ -13,7 +13,8 @@ mod taking_effect;
 mod times;
 
 pub use before::{
-    each_association_was_there_or_came, first_requests_tell_what_is_held, who_waits_keeps_its_offer,
+    each_association_was_there_or_came, first_requests_tell_what_is_held, who_asks_has_read,
+    who_is_half_open_was_so, who_waits_keeps_its_offer,
 };
 pub use made_children::{
     answers_keep_to_their_offers, children_are_extended_where_allowed,

@@ -45,7 +45,7 @@ pub fn new_worlds_are_wholly_sound<C>()
 /// of IKE_SA_INIT, of which the second was made; and what the second answered gave the first its keys. Then,
 /// where both are held after the history, they have one record of keys.
 ///
-/// It asks for nothing but these octets: neither that one record is known to be theirs, nor that the world is
+/// It asks for these octets, and that secrets have their 32 octets, as their type says: neither that one record is known to be theirs, nor that the world is
 /// sound under it, nor that nothing was forged. Cookies, copies and whatever else came between change nothing.
 /// That both came to one record follows by the agreement's law.
 pub fn both_ends_hold_one_record<C: Sealer + Agreement + Proof>()

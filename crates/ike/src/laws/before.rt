@@ -1,7 +1,7 @@
 //! What an IKE SA was before a step.
-ghost use Rattle.ike.specs.LawsOfBefore.{EachAssociationWasThereOrCame, FirstRequestsTellWhatIsHeld, NoSerialIsGivenAgain, WhoWaitsKeepsItsOffer};
+ghost use Rattle.ike.specs.LawsOfBefore.{EachAssociationWasThereOrCame, FirstRequestsTellWhatIsHeld, NoSerialIsGivenAgain, WhoAsksHasRead, WhoAsksWithoutKeysWaited, WhoIsHalfOpenWasSo, WhoWaitsKeepsItsOffer};
 
-use effects::laws::associations_stay_themselves;
+use effects::laws::{associations_stay_themselves, requests_are_remembered};
 use moments::laws::some_are_held_on;
 
 /// Each IKE SA that is held after a step was held before it: it is as it was, or took the datagram's message,
@@ -32,4 +32,23 @@ pub fn who_waits_keeps_its_offer()
 {
     associations_stay_themselves();
     some_are_held_on();
+}
+
+/// An IKE SA that waited for the response of IKE_SA_INIT, and asks by IKE_AUTH after a step, read that response
+/// from the datagram. It keeps the response, and has keys with its own nonce (RFC 7296, section 2.15). One that
+/// asks by IKE_AUTH, and had no keys, waited so (`waited`).
+pub fn who_asks_has_read()
+    ensures read { WhoAsksHasRead }
+    ensures waited { WhoAsksWithoutKeysWaited }
+{
+    associations_stay_themselves();
+    some_are_held_on();
+}
+
+/// An IKE SA that is half-open after a step, and was there before it, was half-open with the same keys, request
+/// and reply.
+pub fn who_is_half_open_was_so()
+    ensures { WhoIsHalfOpenWasSo }
+{
+    requests_are_remembered();
 }

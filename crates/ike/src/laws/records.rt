@@ -9,9 +9,9 @@ ghost use Rattle.suite.specs.declared.sealer.Cipher.{Cipher};
 use suite::Agreement;
 use wire::laws::octets_spell_one_message;
 
-/// Where one call gave an end its keys as initiator, and one call an end as responder, each from the SPI,
-/// the value of the key exchange and the nonce that the other's IKE SA holds of itself (RFC 7296,
-/// section 2.14), both have one record of keys: by the agreement's law alone, whatever else the messages
+/// Both ends make one record of keys (RFC 7296, section 2.14). One step gave an end its keys as initiator, and
+/// one gave an end its keys as responder. Each took the SPI, the value of the key exchange and the nonce that
+/// the other's IKE SA holds of itself. That is enough, by the agreement's law alone: whatever else the messages
 /// had, and whatever ciphers and groups the ends ask for.
 pub fn both_ends_make_one_record<C: Agreement>()
     ensures { (asker : Asker) (theirs : Cipher) (their_group : ℕ)

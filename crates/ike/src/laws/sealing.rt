@@ -3,8 +3,8 @@ ghost use Rattle.ike.specs.LawsOfSealing.{EachAssociationHoldsWholeKeys, EachAss
 
 use auth::laws::windows_are_read_again;
 
-/// Whatever a step sends under keys is a response that goes out again, or is sealed now: with the fresh octets
-/// of the step, under the keys of the IKE SA that the trace names. Its payloads tell no wider window than this
+/// Whatever a step sends under keys, but for what a tick sends again, is a response that goes out again, or is
+/// sealed now: with the fresh octets of the step, under the keys of the IKE SA that the trace names. Its payloads tell no wider window than this
 /// end is set to (RFC 7296, section 2.3). Keys that come with a request come with that of Message ID 1, the
 /// one of IKE_AUTH.
 pub fn what_goes_out_under_keys_is_sealed()
