@@ -1,4 +1,2 @@
 mod WorkedStrangerLemmas
 mod WorkedClosingLemmas
-mod ProvedLemmas
-mod PartnerLemmas

@@ -1,3 +1,2 @@
 pub mod WorkedStrangers
 pub mod WorkedClosings
-pub mod Agreeing

@@ -1,3 +1,4 @@
+mod RecordLemmas
 pub mod OctetLemmas
 pub mod InitLemmas
 pub mod SealedLemmas
@@ -37,4 +38,3 @@ mod HeldLemmas
 mod AskingLemmas
 mod LastLemmas
 mod WorkedRunLemmas
-mod WorkedExchangeLemmas

@@ -22,4 +22,3 @@ mod SizeLemmas
 mod LawLemmas
 mod FittingLemmas
 mod DeterminedSpellings
-mod ClearLemmas
