@@ -1,6 +1,7 @@
 //! The payloads that a message holds.
-ghost use Rattle.std.specs.Prelude.{IfOk};
+ghost use Rattle.std.specs.Prelude.{◌≡◌, ◌≢◌, IfErr, IfOk, IsErr, Err, None, Ok, Some};
 ghost use Rattle.exchange.specs.Chains.{IsRead};
+ghost use Rattle.wire.specs.declared.fault.WireFault.{WireFault};
 
 use crate::Plain;
 use base::Items;
@@ -12,7 +13,19 @@ use wire::{Payload, WireFault, decode_chain};
 pub fn read_chain(alloc: Global, plain: &Plain) -> Result<Option<Items<Payload>>, AllocError>
     ensures { IfOk result (IsRead plain.now) }
 {
-    match decode_chain(alloc, plain.first, plain.octets.as_slice()) {
+    unless_memory(decode_chain(alloc, plain.first, plain.octets.as_slice()))
+}
+
+// What was read of a chain. Where the grammar refused it there are no payloads. Only want of memory is an
+// error, and no other fault is answered as that.
+fn unless_memory(
+    read: Result<Items<Payload>, WireFault>,
+) -> Result<Option<Items<Payload>>, AllocError>
+    ensures read { IfOk read (λ payloads. result ≡ Ok (Some payloads)) }
+    ensures refused { IfErr read (λ fault. fault ≢ WireFault.Memory → result ≡ Ok None) }
+    ensures memory { read ≡ Err WireFault.Memory → IsErr result }
+{
+    match read {
         Ok(payloads) => Ok(Some(payloads)),
         Err(WireFault::Memory) => Err(AllocError),
         Err(_) => Ok(None),

@@ -28,6 +28,7 @@ use Rattle.traffic.specs.Outcomes.{Outcome}
 use Rattle.traffic.specs.Outcomes as traffic
 use Rattle.traffic.specs.Receiving.{IsAddressedTo, Receives, TakesNumberAt}
 use Rattle.traffic.specs.Sending.{IsDecided, Sends}
+use Rattle.gateway.specs.Exchanges.{HoldOneRecord}
 use Rattle.gateway.specs.Inputs.{Event, Input}
 use Rattle.gateway.specs.Inputs as input
 use Rattle.gateway.specs.Outputs.{Up}
@@ -426,14 +427,15 @@ module _ {C : Type 0} (turns : TurnLaws) (kin : ChildLaws) (mirrors : MirrorLaws
       (packets.up (count_at end hs place) serial number one (passage_at end h) at_first said)
       (packets.up (count_at end hs other) serial number two (passage_at end g) at_second also))
 
-  pub both_ends_promises : PromisesOfBothEnds body_of plain_of meaning_of hs old new
-  both_ends_promises = record {
+  pub both_ends_promises : HoldOneRecord hs new → PromisesOfBothEnds body_of plain_of meaning_of hs old new
+  both_ends_promises one_record = record {
     stays = stays_so;
     windows = λ keys known. fit keys known.windows;
     agree = agree_so;
     pairs = λ known place h there. let at = event_at laws meaning_of hs old new place h trail known there in accounts_after laws meaning_of h at.takes at.accounts;
     stored = λ known place serial number packet h there said. up_stored laws carry meaning_of h new (event_at laws meaning_of hs old new place h trail known there) serial number packet said;
     once = once_so;
+    one_record = one_record;
   }
 
 -- ---- a new world

@@ -1,9 +1,9 @@
 -- An event keeps what a world knows of its Child SAs under a key record.
-use Rattle.std.proofs.Common.{◌≡◌, ◌⊎◌, ℕ, Bool, true, false, List, Option, Some, None, Contains, inl, inr, refl, sym, ap, subst, ◌∙◌, arith}
+use Rattle.std.proofs.Common.{◌≡◌, ◌⊎◌, ℕ, Bool, true, false, List, Option, Some, None, Contains, map, inl, inr, refl, sym, ap, subst, ◌∙◌, arith}
 use Rattle.std.specs.Prelude.{option_and_then}
 use Rattle.std.specs.Option.{option_to_list}
 use Rattle.std.specs.FinMap as finite
-use Rattle.std.proofs.lemmas.List.Elements.{All-contains, All-from_recursion, Contains-append_cases}
+use Rattle.std.proofs.lemmas.List.Elements.{All-contains, All-from_recursion, Contains-append_cases, Contains-append_left, Contains-append_right}
 use Rattle.base.specs.Octets.{Octets}
 use Rattle.wire.specs.Messages.{Spells}
 use Rattle.wire.specs.Numbers.{CREATE_CHILD_SA, IKE_AUTH}
@@ -39,7 +39,7 @@ use Rattle.further.specs.Payloads.{further_payloads}
 use Rattle.setup.specs.Configs.{Setup}
 use Rattle.association.specs.declared.outcome.Answered as answering
 use Rattle.effects.specs.Children.{exchange_of_child, AnswersForChild, ChildKind, EndsWithChild, EndsWithFurther, First, Further, MadeBy, MayAnswer}
-use Rattle.effects.specs.Lengths.{AreWholeKeys}
+use Rattle.effects.specs.Lengths.{AreWholeKeys, HoldsWholeKeys}
 use Rattle.effects.specs.Moves.{Count, Make, Move, TakeEffect}
 use Rattle.effects.specs.Openings.{OpensAsMessage}
 use Rattle.effects.specs.Taking.{Meaning}
@@ -47,6 +47,7 @@ use Rattle.effects.specs.Waiting.{MayBeOutstanding}
 use Rattle.effects.specs.declared.taking.Effect.{Effect}
 use Rattle.effects.specs.declared.taking.Effect.TheVariants as effect
 use Rattle.ike.specs.Children.{AsksFirstChild, AsksForFurtherNow, AsksNow, FurtherOrdered, FurtherWaited, MakesChildOf, WaitedBefore}
+use Rattle.ike.specs.LawsOfSealing.{EachAssociationHoldsWholeKeys, EachAssociationIsSound, KeysComeWithTheFirstRequest}
 use Rattle.ike.specs.Lengths.{HoldWholeKeys}
 use Rattle.ike.specs.Machines.{association_of, keys_of_serial, setup_at, Held, Machine}
 use Rattle.ike.specs.Moves.{Comes, ComesFor, HasFresh, HasSeal, KeysCome, MoveComes, MovesAt}
@@ -70,14 +71,16 @@ use Rattle.gateway.specs.WorldHistories.{Happening}
 use Rattle.gateway.specs.WorldParties.{HasSent, HoldsUnder}
 use Rattle.gateway.specs.WorldPromises.{ComesUnder}
 use Rattle.gateway.specs.WorldRuns.{IsLater}
-use Rattle.gateway.specs.Worlds.{child_by, child_with, gateway_at, other_end, simplex_of, storing, with_gateway, IsFreshlyGiven, Stored, TakesEvent, WorldState}
+use Rattle.gateway.specs.Worlds.{again_as, child_by, child_with, datagram_of, gateway_at, ike_mark, mark_under, other_end, requests_in, sent_by, sent_once, simplex_of, storing, with_gateway, IsFreshlyGiven, Stored, TakesEvent, WorldState}
 use Rattle.gateway.specs.declared.world.stored.Child.{Child}
 use Rattle.gateway.specs.declared.world.stored.End.{End}
 use Rattle.gateway.specs.declared.world.stored.End.TheVariants.{A, B}
-use Rattle.gateway.proofs.AskedLemmas.{datagram_asked, sound_at, stored_message, whole_at}
+use Rattle.gateway.specs.declared.world.stored.Protection.{Protection}
+use Rattle.gateway.specs.declared.world.stored.Protection.TheVariants as mark
 use Rattle.gateway.proofs.MoveLemmas.{said_octets, TurnLaws}
 use Rattle.gateway.proofs.PartyLemmas.{none_some, single, some_is}
 use Rattle.gateway.proofs.SoundWorldLemmas.{each_end, still_sent}
+use Rattle.gateway.proofs.TurnLemmas.{is_once}
 use Rattle.gateway.proofs.WorldLemmas.{stored_at}
 use Rattle.association.specs.Outcomes.{made_by as serial_made}
 
@@ -103,6 +106,9 @@ pub record ChildLaws : Type 0 where
   pub whole : (meaning : Meaning) (entries : List Entry) (view : ike.InputView) (old : Machine) (table : Database) (stepped : Stepped) (new : Machine) (new_table : Database)
       → HoldWholeKeys old.held → ike.Steps meaning entries view old table stepped new new_table → HoldWholeKeys new.held
   pub one_message : (m n : Message) (b : Octets) → Spells m b → Spells n b → m ≡ n
+  pub first : KeysComeWithTheFirstRequest
+  pub each_sound : EachAssociationIsSound
+  pub each_whole : EachAssociationHoldsWholeKeys
 
 -- the callers of both ends seal and open by one cipher
 pub record ShareCipher {C : Type 0} (meaning_of : C → Meaning) (body_of : Keys → Octets → Octets → Octets → Octets) (plain_of : Opening) : Type 0 where
@@ -181,8 +187,8 @@ role_keys : (role : Role) (keys : KeyRecord) → AreWholeKeys keys → AreKeys (
 role_keys Initiator keys whole = whole.initiator
 role_keys Responder keys whole = whole.responder
 
-pub keys_at : (held : Held) (serial : ℕ) (a : Association) (keys : KeyRecord) (role : Role) → HoldWholeKeys held → association_of serial held.associations ≡ Some a → keys_in a.phase ≡ Some keys → AreKeys (keys_of role keys)
-keys_at held serial a keys role whole there keyed = role_keys role keys (whole_at held serial a whole there keys keyed)
+pub keys_at : (a : Association) (keys : KeyRecord) (role : Role) → HoldsWholeKeys a.phase → keys_in a.phase ≡ Some keys → AreKeys (keys_of role keys)
+keys_at a keys role whole keyed = role_keys role keys (whole keys keyed)
 
 -- ---- the IKE SA that waits for the answer to a request for an additional Child SA is established
 
@@ -228,6 +234,19 @@ opened_with plain_of role o keys octets payloads plain is opened = sym (ap (λ (
 pub child_there : (child : Child) (o : Option Child) → Contains (option_to_list o) child → o ≡ Some child
 child_there child None there = absurd (let less = there.1 in omega (arith, less))
 child_there child (Some c) there = ap (λ (x : Child). Some x) (single c child there)
+
+-- ---- a message under SK is stored
+
+stored_message : {C : Type 0} (end : End) (s : OutputView) (trace : Trace) (gateway : State C) (old : Stored) (serial number : ℕ) (response : Bool) (octets : Octets) (keys : KeyRecord)
+    → trace.sent ≡ Some (record { ike = serial; response = response; number = number }) → said_octets s ≡ Some octets → keys_of_serial serial gateway.machine.held.associations ≡ Some keys
+    → HasSent end keys response number octets (storing end s trace gateway old)
+stored_message {C} end s trace gateway old serial number response octets keys marked said keyed =
+    let sent = datagram_of end (mark.Ike keys response number) octets in
+    let by : ike_mark gateway.machine trace.sent ≡ mark.Ike keys response number =
+    ap (λ (o : Option marks.Mark). ike_mark gateway.machine o) marked ∙ ap (λ (k : Option KeyRecord). mark_under (record { ike = serial; response = response; number = number }) k) keyed in
+    Contains-append_right old.sent (sent_by end s trace.sent gateway) sent
+    (Contains-append_left (sent_once end s trace.sent gateway) (map (again_as end gateway.machine) (requests_in s)) sent
+    (subst (λ (m : Protection). Contains (sent_once end s trace.sent gateway) (datagram_of end m octets)) by (is_once end s trace.sent gateway octets said)))
 
 module _ {C : Type 0} (turns : TurnLaws) (kin : ChildLaws) (meaning_of : C → Meaning) (body_of : Keys → Octets → Octets → Octets → Octets) (plain_of : Opening) (shares : ShareCipher meaning_of body_of plain_of) (keys : KeyRecord) where
   module _ (h : Happening C) (t : TakesEvent meaning_of h.event h.before h.said h.after) (last : Stored) (later : IsLater h.after.stored last)
@@ -312,7 +331,7 @@ module _ {C : Type 0} (turns : TurnLaws) (kin : ChildLaws) (meaning_of : C → M
             let same : asks.asks.sent ≡ sent = cc in
             let keyed_is : keys_in asks.is.phase ≡ Some keys = ap (λ (x : Association). keys_in x.phase) own ∙ keyed in
             let known_keys : asks.asks.sent.keys ≡ keys = some_is asks.asks.sent.keys keys (sym (ap keys_in asks.asks.waits) ∙ keyed_is) in
-            let marked = datagram_asked meaning (setup_at was.machine was.entries message.fresh) was.machine.cookies message.from message.octets was.machine.held was.table w.stepped held t.gateway.table serial asking.next steps.1 asking.said asking.keyed in (
+            let marked = kin.first meaning was.entries message.from message.octets message.fresh was.machine was.table w.stepped t.gateway.machine t.gateway.table serial asking.next steps asking.said asking.keyed in (
               asks.asks.request,
               subst (λ (s : AuthSent). HasChildPayloads asks.asks.request (child_request (asked_of s.child))) same asks.asks.asks,
               record {
@@ -323,7 +342,7 @@ module _ {C : Type 0} (turns : TurnLaws) (kin : ChildLaws) (meaning_of : C → M
                   header_is = record { exchange_is = refl; response_is = refl; number_is = refl };
                   sender = asks.is.role;
                   from_sender = refl;
-                  keyed = keys_at held serial asks.is keys asks.is.role whole_new asks.stands keyed_is;
+                  keyed = keys_at asks.is keys asks.is.role (kin.each_whole held serial asks.is whole_new asks.stands) keyed_is;
                   fresh = message.fresh.seal;
                   fresh_octets = seal.octets;
                   fresh_long = seal.many;
@@ -346,7 +365,7 @@ module _ {C : Type 0} (turns : TurnLaws) (kin : ChildLaws) (meaning_of : C → M
             → SentRequest body_of keys e (exchange_of_child Further) number (further_payloads (child_request (asked_of further.child)) further.nonce) last
         further_before number request further asked before =
             let asked_then : before.waited.was.purpose ≡ purpose.CreateChild further = sym before.waited.purpose ∙ asked in
-            let may = (sound_at was.machine was.table serial before.was t.sound.machine before.stood).soundly.waits number before.waited.was before.waited.there in
+            let may = (kin.each_sound was.machine was.table serial before.was t.sound.machine before.stood).soundly.waits number before.waited.was before.waited.there in
             let established = further_established before.was.phase number further (subst (λ (p : Purpose). MayBeOutstanding before.was.phase number p) asked_then may) in
             let keyed_then : keys_in before.was.phase ≡ Some established.0 = ap keys_in established.1 in
             let stays = turns.keys meaning was.entries w.view was.machine was.table w.stepped t.gateway.machine t.gateway.table serial established.0 a t.sound.table t.sound.machine w.steps
@@ -379,7 +398,7 @@ module _ {C : Type 0} (turns : TurnLaws) (kin : ChildLaws) (meaning_of : C → M
                 header_is = record { exchange_is = refl; response_is = refl; number_is = refl };
                 sender = asks.is.role;
                 from_sender = refl;
-                keyed = keys_at held serial asks.is keys asks.is.role whole_new asks.stands keyed_is;
+                keyed = keys_at asks.is keys asks.is.role (kin.each_whole held serial asks.is whole_new asks.stands) keyed_is;
                 fresh = ordered.fresh.seal;
                 fresh_octets = seal.octets;
                 fresh_long = seal.many;
@@ -518,7 +537,7 @@ module _ {C : Type 0} (turns : TurnLaws) (kin : ChildLaws) (meaning_of : C → M
                 header_is = record { exchange_is = refl; response_is = refl; number_is = sym makes.number };
                 sender = makes.was.role;
                 from_sender = refl;
-                keyed = keys_at was.machine.held made.ike makes.was keys makes.was.role whole_old makes.stood keyed;
+                keyed = keys_at makes.was keys makes.was.role (kin.each_whole was.machine.held made.ike makes.was whole_old makes.stood) keyed;
                 fresh = message.fresh.seal;
                 fresh_octets = seal.octets;
                 fresh_long = seal.many;
@@ -535,7 +554,7 @@ module _ {C : Type 0} (turns : TurnLaws) (kin : ChildLaws) (meaning_of : C → M
         ended_first : it.response ≡ true → EndsWithChild meaning makes.was message.octets makes.message keys pair → WasAskedFor body_of plain_of stored_child last
         ended_first response is =
             let keyed : keys_in makes.was.phase ≡ Some keys = ap keys_in is.was ∙ ap (λ (k : KeyRecord). Some k) is.same_keys in
-            let may = (sound_at was.machine was.table made.ike makes.was t.sound.machine makes.stood).soundly.waits makes.message.header.id is.request is.outstanding in
+            let may = (kin.each_sound was.machine was.table made.ike makes.was t.sound.machine makes.stood).soundly.waits makes.message.header.id is.request is.outstanding in
             let one : makes.message.header.id ≡ 1 = (subst (λ (p : Phase). MayBeOutstanding p makes.message.header.id is.request.purpose) is.was may).0 in
             let asking = (known.asks e makes.was (held_before keyed)).first is.sent is.was in
             record {

@@ -30,14 +30,11 @@ pub mod SoundWorldLemmas
 mod WorkedAskingLemmas
 pub mod WorkedWorldLemmas
 mod FlowLemmas
-mod ClearLemmas
 pub mod OpenLemmas
-pub mod AskedLemmas
 pub mod ChildLemmas
 mod MirrorLemmas
 mod PairLemmas
 mod CarryLemmas
-mod WindowLemmas
 mod WindowWorldLemmas
 mod NextLemmas
 pub mod EndingLemmas
@@ -59,3 +56,7 @@ mod OriginLemmas
 pub mod LeavingLemmas
 pub mod EffectLemmas
 mod AlikeLemmas
+pub mod BeforeLemmas
+pub mod IntroductionLemmas
+pub mod AlongLemmas
+pub mod ExchangeLemmas

@@ -1,7 +1,7 @@
 -- What was sealed opens to what was sealed, and to nothing else, as a message of the end that sealed it.
 use Rattle.std.proofs.Common.{◌≡◌, ℕ, Bool, List, [], ◌∷◌, Option, Some, take, drop, refl, sym, ap, subst, ◌∙◌}
 use Rattle.std.proofs.lemmas.List.{take-append-drop}
-use Rattle.base.specs.Octets.{AreOctets, IsOctet, Octets}
+use Rattle.base.specs.Octets.{AreOctets, Octets}
 use Rattle.base.proofs.OctetLemmas.{octets_front}
 use Rattle.wire.specs.Messages.{Spells, SpellsPlainly}
 use Rattle.wire.specs.Parts.{IsZero}
@@ -19,14 +19,12 @@ use Rattle.exchange.specs.declared.headers.Role.TheVariants.{Initiator, Responde
 use Rattle.exchange.specs.declared.sealed.Plain.{Plain}
 use Rattle.association.specs.Receiving.{Opening}
 use Rattle.gateway.specs.WorldChildren.{OpensToPayloads, SealsPayloads}
-use Rattle.gateway.proofs.ClearLemmas.{clear_so}
 
 -- what is known of spellings, and of a cipher
 pub record OpenLaws (body_of : Keys → Octets → Octets → Octets → Octets) (plain_of : Opening) : Type 0 where
   pub spells : (m : Message) (b : Octets) → SpellsPlainly m b → Spells m b
-  pub spells_payloads : (first : ℕ) (ps : List Payload) (x : Octets) → SpellsPayloads IsZero first ps x → SpellsPayloads IsOctet first ps x
   pub one_message : (m n : Message) (b : Octets) → Spells m b → Spells n b → m ≡ n
-  pub one_chain : (first : ℕ) (ps qs : List Payload) (b : Octets) → SpellsChain first ps b → SpellsChain first qs b → ps ≡ qs
+  pub plain_chain : (first : ℕ) (ps qs : List Payload) (b : Octets) → SpellsPayloads IsZero first ps b → SpellsChain first qs b → ps ≡ qs
   pub again : (keys : Keys) (head plain fresh : Octets) → AreSealable keys head plain fresh → plain_of keys head (body_of keys head plain fresh) ≡ Some plain
 
 -- the exchange is the same, and so are the payloads
@@ -72,9 +70,5 @@ opens_so body_of plain_of laws keys exchange of response number payloads read oc
     let chain : SpellsChain it.first read it.plain = subst (λ (p : Plain). SpellsChain p.first read p.octets) plain_is o.read in
     record {
       exchange_is = sym s.header_is.exchange_is ∙ ap (λ (m : Message). m.header.exchange) same ∙ o.header_is.exchange_is;
-      payloads_are = laws.one_chain it.first payloads read it.plain (record {
-        clear = clear_so it.first payloads read it.plain it.spelled chain.payloads chain.clear;
-        payloads = laws.spells_payloads it.first payloads it.plain it.spelled;
-        octets = it.octets;
-      }) chain;
+      payloads_are = laws.plain_chain it.first payloads read it.plain it.spelled chain;
     }

@@ -7,6 +7,9 @@ use Rattle.policy.specs.declared.entry.Entry.{Entry}
 use Rattle.sadb.specs.Database.{empty_table, pair_at, Database, PairMap}
 use Rattle.sadb.specs.declared.pair.Pair.{Pair}
 use Rattle.sadb.specs.Laying.{finished_at}
+use Rattle.traffic.specs.Outcomes.{outcome_of_arrival}
+use Rattle.traffic.specs.declared.arrival.Arrival.{Arrival}
+use Rattle.traffic.specs.declared.arrival.Arrival.TheVariants as arrival
 use Rattle.traffic.specs.declared.departure.Laid.{Laid}
 use Rattle.traffic.specs.declared.departure.Laid.TheVariants as laid
 use Rattle.association.specs.declared.phase.Association.{Association}
@@ -23,7 +26,7 @@ use Rattle.gateway.specs.Inputs.{Input, Outward}
 use Rattle.gateway.specs.Inputs as input
 use Rattle.gateway.specs.Inside.{LiesInside}
 use Rattle.gateway.specs.LawsOfRuns.{EveryRunKeepsItsPromises}
-use Rattle.gateway.specs.Outputs.{output_view, OutputView}
+use Rattle.gateway.specs.Outputs.{output_view, view_of_outcome, OutputView}
 use Rattle.gateway.specs.Promises.{KeepsPromises}
 use Rattle.gateway.specs.Staying.{HasWhatStays, WhatEveryGatewayHasStays}
 use Rattle.gateway.specs.Rows.{said_of_laid, AppendsTo}
@@ -61,6 +64,17 @@ laid_is pairs (Ok (laid.Clear packet)) octets = refl
 laid_is pairs (Ok laid.Discarded) octets = refl
 laid_is pairs (Ok (laid.Dropped fault)) octets = refl
 laid_is pairs (Err none) octets = refl
+
+-- the output that tells what came of an ESP packet
+abbrev pub output_of_arrival : Arrival → Output
+output_of_arrival (arrival.Up child number packet) = output.Up child number packet
+output_of_arrival (arrival.Dummy child number) = output.Dummy child number
+output_of_arrival (arrival.Dropped fault) = output.Dropped (reason.Packet fault)
+
+pub arrival_is : (what : Arrival) → view_of_outcome (outcome_of_arrival what) ≡ output_view (output_of_arrival what)
+arrival_is (arrival.Up child number packet) = refl
+arrival_is (arrival.Dummy child number) = refl
+arrival_is (arrival.Dropped fault) = refl
 
 -- a gateway without IKE SAs and pairs
 pub begins_so : {C : Type 0} (config : Config) (s : State C) (start : ℕ) → s.machine ≡ new_machine config → s.table ≡ empty_table start → HasWhatStays s

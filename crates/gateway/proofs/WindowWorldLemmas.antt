@@ -21,7 +21,7 @@ use Rattle.sadb.specs.Database.{Database}
 use Rattle.association.specs.Phases.{keys_in}
 use Rattle.association.specs.Receiving.{Opening}
 use Rattle.association.specs.declared.phase.Association.{Association}
-use Rattle.auth.specs.Windows.{peer_window}
+use Rattle.auth.specs.Windows.{peer_window, IsWindow}
 use Rattle.setup.specs.Configs.{Setup}
 use Rattle.effects.specs.Moves.{first_ledger, ledger_of, Close, Count, Issue, KeepsReply, Lead, Ledger, Make, Move, Moves, Remove, TakeEffect, WaitsWith}
 use Rattle.effects.specs.Requests.{IsSoundlyHeld, KeepsPeersWindow}
@@ -31,6 +31,8 @@ use Rattle.ike.specs.Lengths.{HoldWholeKeys}
 use Rattle.ike.specs.Machines.{association_of, keys_of_serial, setup_at, Held, Machine}
 use Rattle.ike.specs.Moves.{ledger_at, ComesFor, HasFresh, HasSeal, MoveComes, MovesAt, Tells}
 use Rattle.ike.specs.Outputs.{octets_in}
+use Rattle.ike.specs.LawsOfSealing.{WhatGoesOutUnderKeysIsSealed, WhatIsToldWasTaken}
+use Rattle.ike.specs.Sealing.{IsFreshOf, SealsNow, TellsOfMessageAt}
 use Rattle.ike.specs.Steps as ike
 use Rattle.ike.specs.Tracing.{HoldsKeys}
 use Rattle.ike.specs.declared.output.IkeOutput.TheVariants as output
@@ -52,7 +54,6 @@ use Rattle.gateway.specs.declared.world.stored.Datagram.{Datagram}
 use Rattle.gateway.specs.declared.world.stored.End.{End}
 use Rattle.gateway.specs.declared.world.stored.End.TheVariants.{A, B}
 use Rattle.gateway.specs.declared.world.stored.Protection.TheVariants as mark
-use Rattle.gateway.proofs.AskedLemmas.{sound_at}
 use Rattle.gateway.proofs.ChildLemmas.{brought, gateway_here, gateway_there, keys_at, opened_with, way_of, Answered, Brought, ChildLaws, ShareCipher}
 use Rattle.gateway.proofs.HistoryLemmas.{does_way}
 use Rattle.gateway.proofs.MoveLemmas.{input_moves, octets_same, said_octets, way_keys, TurnLaws}
@@ -61,8 +62,13 @@ use Rattle.gateway.proofs.PartyLemmas.{at_head, from_map, further_on, has_ledger
 use Rattle.gateway.proofs.SoundWorldLemmas.{both_sound, each_end, sound_after, still_sent, trail_later, BothSound, PartyLaws}
 use Rattle.gateway.proofs.ToldLemmas.{step_tells}
 use Rattle.gateway.proofs.TurnLemmas.{again_is, is_under, once_is, IsAgain, IsSaid}
-use Rattle.gateway.proofs.WindowLemmas.{step_goes, taken_by, IsFreshOf, IsTold, SealsNow, WindowLaws}
 use Rattle.gateway.proofs.WorldLemmas.{stored_at}
+
+-- what is known of what a step seals, and of the message that it takes
+pub record SealingLaws : Type 0 where
+  pub sealed : WhatGoesOutUnderKeysIsSealed
+  pub taken : WhatIsToldWasTaken
+  pub bounds : (payloads : List Payload) → IsWindow (peer_window payloads)
 
 -- what is known of the window for this end's requests
 pub record PeersLaws : Type 0 where
@@ -202,7 +208,7 @@ none_of_other {C} e s sent gateway keys response number octets there =
 
 -- ---- an event
 
-module _ {C : Type 0} (turns : TurnLaws) (parties : PartyLaws) (kin : ChildLaws) (windows : WindowLaws) (peers_law : PeersLaws) (meaning_of : C → Meaning) (body_of : Keys → Octets → Octets → Octets → Octets) (plain_of : Opening)
+module _ {C : Type 0} (turns : TurnLaws) (parties : PartyLaws) (kin : ChildLaws) (windows : SealingLaws) (peers_law : PeersLaws) (meaning_of : C → Meaning) (body_of : Keys → Octets → Octets → Octets → Octets) (plain_of : Opening)
     (shares : ShareCipher meaning_of body_of plain_of) (keys : KeyRecord) where
   module _ (h : Happening C) (t : TakesEvent meaning_of h.event h.before h.said h.after) (last : Stored) (later : IsLater h.after.stored last)
       (unforged : (response : Bool) (number : ℕ) (octets : Octets) → ComesUnder meaning_of keys response number octets h → HasSent (other_end h.event.end) keys response number octets last)
@@ -330,7 +336,7 @@ module _ {C : Type 0} (turns : TurnLaws) (parties : PartyLaws) (kin : ChildLaws)
               header_is = record { exchange_is = refl; response_is = refl; number_is = refl };
               sender = s.role;
               from_sender = refl;
-              keyed = keys_at held m.ike stands.association keys s.role whole_new stands.there keyed;
+              keyed = keys_at stands.association keys s.role (kin.each_whole held m.ike stands.association whole_new stands.there) keyed;
               fresh = fresh.seal;
               fresh_octets = seal.octets;
               fresh_long = seal.many;
@@ -345,11 +351,11 @@ module _ {C : Type 0} (turns : TurnLaws) (parties : PartyLaws) (kin : ChildLaws)
           let u = is_under t.gateway.machine t.trace.sent keys entry.response entry.number it.under in
           let named : w.stepped.trace.sent ≡ Some u.mark = sym (ap (λ (x : Trace). x.sent) w.traced) ∙ u.named in
           let said : octets_in w.stepped.output ≡ Some entry.octets = sym (octets_same w.stepped.output) ∙ sym (ap said_octets w.output) ∙ it.octets in
-          let goes = step_goes windows meaning was.entries w.view was.machine was.table w.stepped t.gateway.machine t.gateway.table t.sound.machine w.steps u.mark entry.octets named said in
+          let goes = windows.sealed meaning was.entries w.view was.machine was.table w.stepped t.gateway.machine t.gateway.table u.mark entry.octets t.sound.machine w.steps named said in
           let stands = (step_tells turns.traces meaning h.event.input h.said t.trace was t.gateway t.sound.table t.sound.machine t.traces).sent u.mark u.named in
-          let tells : TellsWindow body_of keys u.mark.response u.mark.number (window_at e h.before) entry.octets = elim goes.2 [
+          let tells : TellsWindow body_of keys u.mark.response u.mark.number (window_at e h.before) entry.octets = elim goes.goes [
             | inl repeats ↦ repeats_told u.mark entry.octets named repeats u.keyed
-            | inr seals ↦ seals_told u.mark entry.octets goes.0 goes.1 seals stands u.keyed
+            | inr seals ↦ seals_told u.mark entry.octets goes.fresh goes.own seals stands u.keyed
           ] in
           subst (λ (b : Bool). TellsWindow body_of keys b entry.number (window_at e h.before) entry.octets) u.is_response
           (subst (λ (n : ℕ). TellsWindow body_of keys u.mark.response n (window_at e h.before) entry.octets) u.number_is tells)
@@ -404,18 +410,18 @@ module _ {C : Type 0} (turns : TurnLaws) (parties : PartyLaws) (kin : ChildLaws)
         keyed_now : keys_of_serial serial held.associations ≡ Some keys
         keyed_now = ap (λ (o : Option Association). option_and_then (λ x. keys_in x.phase) o) a_there ∙ keyed
 
-        by_message : (response : Bool) (number : ℕ) → Arrives response serial number → IsTold w.stepped serial → (a.outgoing.window ≤ 1) ⊎ WasToldWindow plain_of keys e a.outgoing.window last
+        by_message : (response : Bool) (number : ℕ) → Arrives response serial number → TellsOfMessageAt w.stepped serial → (a.outgoing.window ≤ 1) ⊎ WasToldWindow plain_of keys e a.outgoing.window last
         by_message response number it told =
             let message = it.by.message in
             let opens = it.by.opens in
             let steps = subst (λ (v : ike.InputView). ike.Steps meaning was.entries v was.machine was.table w.stepped t.gateway.machine t.gateway.table) message.is w.steps in
-            let by = taken_by meaning (setup_at was.machine was.entries message.fresh) was.machine.cookies message.from message.octets was.machine.held was.table t.sound.machine.held w.stepped held t.gateway.table serial told steps.1 in
+            let by = windows.taken meaning was.entries message.from message.octets message.fresh was.machine was.table w.stepped t.gateway.machine t.gateway.table serial t.sound.machine steps told in
             let own : it.association ≡ by.was = some_is it.association by.was (sym it.stood ∙ by.stood) in
             let itself : by.is ≡ a = some_is by.is a (sym (by.stands (peers_law.serial meaning (setup_at was.machine was.entries message.fresh) by.was was.table message.octets by.message by.effect by.is t.gateway.table by.takes)) ∙ a_there) in
             let before_keys : opens.keys ≡ keys = keys_before serial opens.keys (ap (λ (o : Option Association). option_and_then (λ x. keys_in x.phase) o) it.stood ∙ opens.keyed) keyed_now in
             let was_keyed : keys_in by.was.phase ≡ Some keys = ap (λ (x : Association). keys_in x.phase) (sym own) ∙ opens.keyed ∙ ap (λ (k : KeyRecord). Some k) before_keys in
             let counted = known.counts e by.was (record { serial = serial; there = by.stood; keyed = was_keyed }) in
-            elim (peers_law.peers meaning (setup_at was.machine was.entries message.fresh) by.was was.table message.octets by.message by.effect by.is t.gateway.table (sound_at was.machine was.table serial by.was t.sound.machine by.stood).soundly by.takes) [
+            elim (peers_law.peers meaning (setup_at was.machine was.entries message.fresh) by.was was.table message.octets by.message by.effect by.is t.gateway.table (kin.each_sound was.machine was.table serial by.was t.sound.machine by.stood).soundly by.takes) [
               | inl same ↦ counts_as serial a by.was by.stood was_keyed (ap (λ (x : Association). x.outgoing.window) (sym itself) ∙ same)
               | inr more ↦ widened_by a.outgoing.window more.payloads by.was.outgoing.window (ap (λ (x : Association). x.outgoing.window) (sym itself) ∙ more.window) counted (λ within.
                   let same : opens.message ≡ by.message = kin.one_message opens.message by.message message.octets opens.spelled by.spelled in

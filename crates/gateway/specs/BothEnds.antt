@@ -7,6 +7,7 @@ use Rattle.suite.specs.declared.key_record.KeyRecord.{KeyRecord}
 use Rattle.suite.specs.declared.keys.Keys.{Keys}
 use Rattle.association.specs.Receiving.{Opening}
 use Rattle.effects.specs.Taking.{Meaning}
+use Rattle.gateway.specs.Exchanges.{HoldOneRecord}
 use Rattle.gateway.specs.Inputs.{Event}
 use Rattle.gateway.specs.Origin.{IsUnforgedUpTo}
 use Rattle.gateway.specs.Outputs.{Up}
@@ -42,7 +43,8 @@ pub record ChildrenAgree {C : Type 0} (keys : KeyRecord) (happenings : List (Hap
 -- A list of events keeps the whole invariant, where no message under the record was forged and neither end
 -- came to it twice. Then neither end assumes a wider window than the other is configured with, and the
 -- Child SAs agree. Whatever comes, a world accounts for its pairs, after each step too; what is delivered is
--- of a child that is stored; and no number of a child delivers twice.
+-- of a child that is stored; and no number of a child delivers twice. Where one end's request of
+-- IKE_SA_INIT made the other's IKE SA, and its answer gave the first its keys, both hold one record at the end.
 pub record PromisesOfBothEnds {C : Type 0} (body_of : Keys → Octets → Octets → Octets → Octets) (plain_of : Opening) (meaning_of : C → Meaning) (happenings : List (Happening C)) (old new : WorldState C) : Type 0 where
   pub stays : (keys : KeyRecord) → IsWhollySound body_of plain_of keys old → IsUnforged meaning_of keys happenings new.stored → IsNeverMadeTwice keys new.stored
       → IsWhollySound body_of plain_of keys new
@@ -54,6 +56,7 @@ pub record PromisesOfBothEnds {C : Type 0} (body_of : Keys → Octets → Octets
       → HasStored h.event.end serial h.before.stored
   pub once : (place other serial number : ℕ) (one two : Octets) (h g : Happening C) → slice_get happenings place ≡ Some h → slice_get happenings other ≡ Some g
       → h.event.end ≡ g.event.end → h.said ≡ Up serial number one → g.said ≡ Up serial number two → place ≡ other
+  pub one_record : HoldOneRecord happenings new
 
 -- Over these events: where a Child SA delivers a packet, the other end had sent an ESP packet that carries
 -- it, octet for octet, before this step. It was sealed by the other end's pair of this Child SA, and that

@@ -6,6 +6,7 @@ use Rattle.suite.specs.declared.keys.Keys.{Keys}
 use Rattle.association.specs.Receiving.{Opening}
 use Rattle.effects.specs.Taking.{Meaning}
 use Rattle.gateway.specs.BothEnds.{IsWhollySound, KeepsBothEnds, PromisesOfBothEnds}
+use Rattle.gateway.specs.Exchanges.{HoldOneRecord}
 use Rattle.gateway.specs.Inputs.{Event}
 use Rattle.gateway.specs.Runs.{Runs}
 use Rattle.gateway.specs.States.{IsSoundState, State}
@@ -28,6 +29,12 @@ module _ (C : Type 0) where
       → IsSoundState a
       → IsSoundState b
       → IsWhollySound body_of plain_of keys (new_world a b)
+
+  -- ---- both_ends_hold_one_record
+  abbrev pub BothEndsHoldOneRecord : (C → Meaning) → Type 0
+  BothEndsHoldOneRecord meaning_of = (happenings : List (Happening C)) (old new : WorldState C)
+      → IsWorldTrail meaning_of old happenings new
+      → HoldOneRecord happenings new
 
   -- ---- both_ends_keep_their_promises
   abbrev pub BothEndsKeepTheirPromises : (Keys → Octets → Octets → Octets → Octets) → Opening → (C → Meaning)

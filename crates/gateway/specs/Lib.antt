@@ -16,6 +16,7 @@ pub mod WorldPromises
 pub mod WorldChildren
 pub mod WorldPackets
 pub mod WorldWindows
+pub mod Exchanges
 pub mod BothEnds
 pub mod WorldRuns
 pub mod Storing

@@ -29,8 +29,8 @@ pub use strangers::{
     packets_go_as_without_strangers, strangers_change_nothing, what_has_no_effect_can_be_left_out,
 };
 pub use together::{
-    both_ends_keep_their_promises, calls_in_a_row_keep_both_ends, new_worlds_are_wholly_sound,
-    what_goes_up_had_been_sealed, windows_are_those_told,
+    both_ends_hold_one_record, both_ends_keep_their_promises, calls_in_a_row_keep_both_ends,
+    new_worlds_are_wholly_sound, what_goes_up_had_been_sealed, windows_are_those_told,
 };
 pub use worlds::{
     each_end_has_its_events, ends_of_a_sound_world_agree, every_world_stays_sound,

@@ -276,7 +276,7 @@ pub use running::run;
 pub use sadb::{Pair, SpiFault, Table, first_spi};
 pub use setup::{Config, ConfigFault, EndConfig};
 pub use suite::{Agreement, Fresh, KeyRecord, Proof, Sealer};
-pub use traffic::{Laid, PacketFault};
+pub use traffic::{Arrival, Laid, PacketFault};
 pub use transmit::{Datagrams, Transmit};
 pub use wire::WireFault;
 pub use world::{Child, Datagram, End, Event, Keyed, Protection, Simplex, World, run_world};

@@ -11,26 +11,27 @@ ghost use Rattle.esp.specs.Precomputed.{ArePrecomputed, IsPrecomputed};
 ghost use Rattle.sadb.specs.Laying.{KeepsSenders};
 ghost use Rattle.gateway.specs.Carrying.{EachPairIsOfAnEstablished};
 ghost use Rattle.gateway.specs.Groups.{packet_in, packets_in};
-ghost use Rattle.gateway.specs.Inputs.{Outward, input_view};
+ghost use Rattle.gateway.specs.Inputs.{Esp, Outward, input_view};
 ghost use Rattle.gateway.specs.Inside.{LiesInside};
 ghost use Rattle.gateway.specs.Laying.{finished_output, finished_outputs};
 ghost use Rattle.gateway.specs.Lengths.{AreGiven};
 ghost use Rattle.gateway.specs.Once.{HasOneResult};
-ghost use Rattle.gateway.specs.Outputs.{output_view};
+ghost use Rattle.gateway.specs.Outputs.{output_view, view_of_outcome};
 ghost use Rattle.gateway.specs.Staying.{RepliesAreKept, WindowsAreConfigured};
 ghost use Rattle.gateway.specs.Rows.{AppendsTo, finished_row, octets_of};
 ghost use Rattle.gateway.specs.States.{new_gateway};
 ghost use Rattle.gateway.specs.Steps.{Steps, Traces};
 ghost use Rattle.effects.specs.Taking.{meaning_of};
 ghost use Rattle.moments.specs.Next.{NothingIsDueBefore, SomethingIsDue};
+ghost use Rattle.traffic.specs.Outcomes.{outcome_of_arrival};
 
 use crate::ahead::{gain_ahead, set_ahead};
 use crate::given::{tell_their_lengths, tells_its_lengths};
 use crate::laws::{steps_are_determined, what_every_gateway_has_stays};
 use crate::laying::finish_all;
 use crate::row::finish_row;
-use crate::stepping::{lay, lay_behind, take};
-use crate::{Input, Laid, Output, Span, Traced};
+use crate::stepping::{lay, lay_behind, receive, take};
+use crate::{Arrival, Input, Laid, Output, Span, Traced};
 use association::Association;
 use esp::{GROUP, PACKETS_LEAST, Precomputed};
 use flows::FlowMemory;
@@ -273,6 +274,26 @@ impl<C: Sealer + Agreement + Proof> Gateway<C> {
             &mut self.flows,
             &self.policy,
             &self.caller,
+        )
+    }
+
+    /// Takes an ESP packet as [`traced_step_ahead`](Gateway::traced_step_ahead) takes [`Input::Esp`], and
+    /// returns what came of it by itself, which is shorter than an output with its trace. Takes no memory.
+    pub fn receive_ahead<'a>(&mut self, packet: &'a [u8], ahead: Option<Precomputed>) -> Arrival<'a>
+        requires { IfSome ahead (IsPrecomputed packet.now) }
+        ensures { Traces
+            (meaning_of C.Sealer C.Agreement C.Proof self.old.caller)
+            (Esp packet.now) self.old (view_of_outcome (outcome_of_arrival result)) no_trace self.new }
+    {
+        what_every_gateway_has_stays::<C>();
+        self.invariants_hold();
+        receive(
+            packet,
+            ahead,
+            &self.ike,
+            &mut self.table,
+            &self.flows,
+            &self.policy,
         )
     }
 

@@ -116,25 +116,7 @@ impl<'a> Traced<'a> {
         ensures output { output_view result.output ≡ view_of_outcome (outcome_of_arrival arrival.entry) }
         ensures trace { result.trace ≡ no_trace }
     {
-        let output = match arrival {
-            Arrival::Up {
-                child,
-                number,
-                packet,
-            } => Output::Up {
-                child,
-                number,
-                packet,
-            },
-            Arrival::Dummy { child, number } => Output::Dummy { child, number },
-            Arrival::Dropped(fault) => Output::Dropped {
-                reason: Reason::Packet(fault),
-            },
-        };
-        Traced {
-            output,
-            trace: Trace::NONE,
-        }
+        Traced::plain(Output::of_arrival(arrival))
     }
 }
 
@@ -151,6 +133,26 @@ impl<'a> Output<'a> {
             IkeOutput::Done => Output::Done,
             IkeOutput::Dropped(fault) => Output::Dropped {
                 reason: Reason::Ike(fault),
+            },
+        }
+    }
+
+    pub(crate) fn of_arrival(arrival: Arrival<'a>) -> Output<'a>
+        ensures { output_view result ≡ view_of_outcome (outcome_of_arrival arrival.entry) }
+    {
+        match arrival {
+            Arrival::Up {
+                child,
+                number,
+                packet,
+            } => Output::Up {
+                child,
+                number,
+                packet,
+            },
+            Arrival::Dummy { child, number } => Output::Dummy { child, number },
+            Arrival::Dropped(fault) => Output::Dropped {
+                reason: Reason::Packet(fault),
             },
         }
     }

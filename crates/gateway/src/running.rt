@@ -8,7 +8,9 @@ ghost use Rattle.gateway.specs.Inputs.{input_view};
 ghost use Rattle.gateway.specs.Inside.{LiesInside};
 ghost use Rattle.gateway.specs.Laying.{TakesNext, finished_from};
 ghost use Rattle.gateway.specs.LeavingOut.{HasOneResultWithout};
+ghost use Rattle.gateway.specs.Outputs.{output_view};
 ghost use Rattle.gateway.specs.Runs.{RunsFirst, Stops};
+ghost use Rattle.gateway.specs.Steps.{Steps};
 ghost use Rattle.effects.specs.Taking.{meaning_of};
 
 use crate::ahead::gain_ahead;
@@ -213,7 +215,25 @@ fn take_next<'a, C: Sealer + Agreement + Proof>(
     if start < outputs.len() {
         gateway.finish(&mut outputs[start..]);
     }
-    let output = gateway.traced_step_ahead(alloc, input, ahead).output;
+    let output = output_of(alloc, gateway, input, ahead);
     outputs.push_reserved(output);
     outputs.len()
+}
+
+// Takes an input, and returns its output without the trace, which an ESP packet has none of.
+fn output_of<'a, C: Sealer + Agreement + Proof>(
+    alloc: Global,
+    gateway: &mut Gateway<C>,
+    input: &Input<'a>,
+    ahead: Option<Precomputed>,
+) -> Output<'a>
+    requires { IfSome ahead (IsPrecomputed (packet_in (input_view input.now))) }
+    ensures { Steps
+        (meaning_of C.Sealer C.Agreement C.Proof gateway.old.caller)
+        (input_view input.now) gateway.old (output_view result) gateway.new }
+{
+    if let Input::Esp { octets } = *input {
+        return Output::of_arrival(gateway.receive_ahead(octets, ahead));
+    }
+    gateway.traced_step_ahead(alloc, input, ahead).output
 }

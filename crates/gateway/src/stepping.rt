@@ -10,11 +10,12 @@ ghost use Rattle.ike.specs.Steps as ike_steps;
 ghost use Rattle.gateway.specs.Groups.{packet_in};
 ghost use Rattle.gateway.specs.Inputs.{input_view};
 ghost use Rattle.gateway.specs.Laying.{finished_output};
-ghost use Rattle.gateway.specs.Outputs.{output_view};
+ghost use Rattle.gateway.specs.Outputs.{output_view, view_of_outcome};
 ghost use Rattle.gateway.specs.Rows.{AppendsTo};
 ghost use Rattle.sadb.specs.Laying.{KeepsSenders};
-ghost use Rattle.gateway.specs.Steps.{AdmitsPacket, DoesInput, SendsPacket, StepsIke};
+ghost use Rattle.gateway.specs.Steps.{AdmitsPacket, DoesInput, ReceivesPacket, SendsPacket, StepsIke};
 ghost use Rattle.effects.specs.Taking.{meaning_of};
+ghost use Rattle.traffic.specs.Outcomes.{outcome_of_arrival};
 
 use crate::laying::finished;
 use crate::{Input, Output, Reason, Traced};
@@ -31,7 +32,7 @@ use sadb::Table;
 use std::alloc::{AllocError, Global};
 use suite::{Agreement, Proof, Sealer};
 use traffic::laws::{no_pair_comes, senders_stay};
-use traffic::{Laid, admit, receive_ahead};
+use traffic::{Arrival, Laid, admit, receive_ahead};
 
 // Takes an input of any kind, an ESP packet with its ICV where that was computed ahead.
 pub(crate) fn take<'a, C: Sealer + Agreement + Proof>(
@@ -175,6 +176,32 @@ fn forget_with(flows: &mut FlowMemory, child: Option<MadeChild>)
     if child.is_some() {
         flows.forget();
     }
+}
+
+/// Takes an ESP packet that came, with its ICV where that was computed ahead.
+pub(crate) fn receive<'a>(
+    packet: &'a [u8],
+    ahead: Option<Precomputed>,
+    ike: &Ike,
+    table: &mut Table,
+    flows: &FlowMemory,
+    policy: &Policy,
+) -> Arrival<'a>
+    requires ahead { IfSome ahead (IsPrecomputed packet.now) }
+    requires sound { IsSoundMachine ike.now table.old }
+    requires reservations { AreReservationsHeld ike.now.held table.old }
+    requires right { AllRight policy.now table.old.pairs flows.now }
+    ensures received { ReceivesPacket table.old packet.now
+        (view_of_outcome (outcome_of_arrival result)) table.new }
+    ensures sound { IsSoundMachine ike.now table.new }
+    ensures reservations { AreReservationsHeld ike.now.held table.new }
+    ensures right { AllRight policy.now table.new.pairs flows.now }
+{
+    soundness_asks_for_reservations();
+    no_spi_is_lost();
+    answers_stay_right();
+    no_pair_comes();
+    receive_ahead(table, packet, ahead)
 }
 
 /// Lays an outbound packet.

@@ -39,3 +39,11 @@ mod AllowedLemmas
 mod OfferLemmas
 mod NextLemmas
 mod LawfulLemmas
+mod SealingLemmas
+mod FirstRequestLemmas
+mod BeforeLemmas
+mod FirstSentLemmas
+mod RecordLemmas
+mod KeysComeLemmas
+mod OfferedLemmas
+mod ToldLemmas

@@ -18,11 +18,17 @@ pub mod Proving
 pub mod Requests
 pub mod Moments
 pub mod Moves
+pub mod Sealing
+pub mod Before
+pub mod Records
 pub mod LawCases
 pub mod StepLaws
 pub mod LawsOfSoundness
 pub mod LawsOfSteps
 pub mod LawsOfOutputs
+pub mod LawsOfBefore
+pub mod LawsOfRecords
+pub mod LawsOfSealing
 pub mod LawsOfChildren
 pub mod LawsOfPeers
 pub mod LawsOfRequests

@@ -1,2 +1,4 @@
 mod WorkedStrangerLemmas
 mod WorkedClosingLemmas
+mod ProvedLemmas
+mod PartnerLemmas

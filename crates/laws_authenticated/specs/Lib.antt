@@ -1,2 +1,3 @@
 pub mod WorkedStrangers
 pub mod WorkedClosings
+pub mod Agreeing

@@ -5,29 +5,36 @@ ghost use Rattle.suite.specs.declared.fresh.Fresh.{Fresh};
 ghost use Rattle.policy.specs.declared.entry.Entry.{Entry};
 ghost use Rattle.setup.specs.Configs.{IsConfig};
 ghost use Rattle.setup.specs.declared.config.Config.{Config};
-ghost use Rattle.effects.specs.Taking.{Meaning};
+ghost use Rattle.suite.specs.declared.key_record.KeyRecord.{KeyRecord};
+ghost use Rattle.effects.specs.Taking.{meaning_of, Meaning};
 ghost use Rattle.gateway.specs.Histories.{IsHistory, IsPassage, Passage};
 ghost use Rattle.gateway.specs.Inputs.{Event, Input};
 ghost use Rattle.gateway.specs.Outputs.{Sealed};
-ghost use Rattle.gateway.specs.WorldHistories.{Happening, IsWorldHistory, passages_at};
-ghost use Rattle.gateway.specs.Worlds.{WorldState, gateway_at};
+ghost use Rattle.gateway.specs.WorldHistories.{Happening, IsWorldHistory, IsWorldTrail, passages_at};
+ghost use Rattle.gateway.specs.Worlds.{HoldsNothing, WorldState, gateway_at};
 ghost use Rattle.gateway.specs.declared.world.stored.End.{End};
 ghost use Rattle.gateway.specs.States.{State, new_gateway};
 ghost use Rattle.gateway.specs.declared.output.Output.{Output};
 ghost use Rattle.gateway.specs.Carrying.{EachPairIsOfAnEstablished, KeepsSettings, OnlyTheKnownCarry, OnlyTheProvedCarry, SealsWhatIsProtected};
 ghost use Rattle.gateway.specs.Closing.{IsOverBy, NothingIsCarriedAfter};
 ghost use Rattle.gateway.specs.Inside.{LiesInside};
+ghost use Rattle.laws_authenticated.specs.Agreeing.{IsEstablishedAsInitiator, EachNonceIsOfOne, HasPartner, NoProofIsForged};
 ghost use Rattle.laws_authenticated.specs.WorkedClosings.{CanLeaveAStrangerOut, IsClosedByItsPeer};
 ghost use Rattle.laws_authenticated.specs.WorkedStrangers.{IsMetByAStranger};
 
+use effects::laws::associations_stay_themselves;
 use gateway::laws::each_end_has_its_events;
 use ike::laws::{
-    children_are_made_of_their_messages, requests_are_remembered, steps_keep_their_laws,
-    traces_name_what_is_held,
+    both_ends_make_one_record, children_are_made_of_their_messages, each_association_is_sound,
+    each_association_was_there_or_came, first_requests_tell_what_is_held,
+    keys_come_by_what_is_read, requests_are_remembered, soundness_stays, steps_keep_their_laws,
+    the_established_proved_themselves, traces_name_what_is_held, who_asks_has_read,
+    who_is_half_open_was_so, who_waits_keeps_its_offer,
 };
 use moments::laws::{pairs_go_with_their_associations, some_are_held_on, what_is_held_was_held};
+use suite::{Agreement, Proof, Sealer};
 use traffic::laws::later_tables_follow;
-use wire::laws::octets_spell_one_message;
+use wire::laws::{octets_spell_one_message, plain_spellings_are_spellings};
 
 /// Each SA pair in the table belongs to an IKE SA that is held and established (RFC 4301, section 4.4.2):
 /// in a new gateway, which has no pair, and after every step of a gateway of which it held before. So where
@@ -211,4 +218,46 @@ pub fn a_stranger_is_left_out_of_a_worked_run<C>()
         → CanLeaveAStrangerOut config caller from fresh }
 {
     a_stranger_is_met_by_a_worked_gateway::<C>();
+}
+
+/// An established initiator has a partner (RFC 7296, sections 1.2, 2.10 and 2.15). Take a world of two new
+/// gateways, any history of it, and a step at which the response of IKE_AUTH establishes an IKE SA of one end.
+///
+/// The other end had made an IKE SA of the very request of IKE_SA_INIT that this end sent. This end had read the
+/// very response that the other answered. The other end's IKE SA was established at an earlier step, under the
+/// same keys.
+///
+/// Two things are assumed. No proof is forged: where an end's check accepts a proof of its peer over some octets,
+/// and an IKE SA is established by it, the other end had proved these octets before (`NoProofIsForged`). And no
+/// two IKE SAs that an end began have drawn one nonce (`EachNonceIsOfOne`). Neither of a responder nor of a
+/// second partner anything is said.
+pub fn an_established_initiator_has_a_partner<C: Sealer + Agreement + Proof>()
+    ensures { (happenings : List (Happening C)) (old new : WorldState C)
+        → IsWorldTrail
+        (meaning_of C.Sealer C.Agreement C.Proof)
+        old happenings new
+        → ((end : End) → HoldsNothing (gateway_at end old))
+        → NoProofIsForged
+        (meaning_of C.Sealer C.Agreement C.Proof)
+        happenings
+        → EachNonceIsOfOne happenings
+        → (place serial : ℕ) (h : Happening C) (end : End) (keys : KeyRecord)
+        → slice_get happenings place ≡ Some h
+        → IsEstablishedAsInitiator h end serial keys → HasPartner happenings place end serial keys }
+{
+    associations_stay_themselves();
+    both_ends_make_one_record::<C>();
+    children_are_made_of_their_messages();
+    each_association_is_sound();
+    each_association_was_there_or_came();
+    first_requests_tell_what_is_held();
+    keys_come_by_what_is_read();
+    octets_spell_one_message();
+    plain_spellings_are_spellings();
+    soundness_stays();
+    the_established_proved_themselves();
+    traces_name_what_is_held();
+    who_asks_has_read();
+    who_is_half_open_was_so();
+    who_waits_keeps_its_offer();
 }

@@ -1,4 +1,3 @@
-mod RecordLemmas
 pub mod OctetLemmas
 pub mod InitLemmas
 pub mod SealedLemmas
@@ -38,3 +37,4 @@ mod HeldLemmas
 mod AskingLemmas
 mod LastLemmas
 mod WorkedRunLemmas
+mod WorkedExchangeLemmas

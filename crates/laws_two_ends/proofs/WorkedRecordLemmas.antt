@@ -21,7 +21,7 @@ use Rattle.initial.specs.Reading.{waiting_of, ReadsResponse, TellsIdentity}
 use Rattle.association.specs.declared.admitting.Admitted.{Admitted}
 use Rattle.initial.specs.declared.beginning.Beginning.{Beginning}
 use Rattle.initial.specs.declared.reading.Continued.TheVariants as continued
-use Rattle.laws_two_ends.specs.Records.{ComesToKeysAsInitiator, ComesToKeysAsResponder}
+use Rattle.ike.specs.Records.{ComesToKeysAsInitiator, ComesToKeysAsResponder}
 use Rattle.wire.specs.Parts.{IsZero}
 use Rattle.laws_two_ends.specs.WorkedRecords.{answering_fresh, beginning_fresh, introduction_of, worked_asker, worked_record, AreOfOneExchange, IsWorkedRecord}
 use Rattle.laws_two_ends.proofs.AcceptLemmas.{answer_accepted, chosen_is, worked_chosen}

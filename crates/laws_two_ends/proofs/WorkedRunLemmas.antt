@@ -56,7 +56,7 @@ module _ {C : Type 0} (a b : C) where
   holds_nothing A = new_end_holds_nothing A a
   holds_nothing B = new_end_holds_nothing B b
 
-  run_is : SoundnessStays → NoSpiIsLost → IsWorldTrail (λ _. run_meaning) (new_ends a b) steps last
+  pub run_is : SoundnessStays → NoSpiIsLost → IsWorldTrail (λ _. run_meaning) (new_ends a b) steps last
   run_is stays held =
       let one : IsSoundState (told_world a b).a = told_one_is_sound stays held a b in
       let other : IsSoundState (told_world a b).b = told_other_is_sound stays held a b in

@@ -1,7 +1,7 @@
-pub mod Records
 pub mod WorkedRecords
 pub mod WorldRecords
 pub mod GoingOut
 pub mod WorkedMessages
 pub mod WorkedChildren
 pub mod WorkedRuns
+pub mod WorkedExchanges

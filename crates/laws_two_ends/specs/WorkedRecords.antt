@@ -21,7 +21,7 @@ use Rattle.initial.specs.Beginning.{begun, Begins}
 use Rattle.setup.specs.Configs.{IsConfig}
 use Rattle.initial.specs.Reading.{Asker}
 use Rattle.initial.specs.declared.beginning.Beginning.{Beginning}
-use Rattle.laws_two_ends.specs.Records.{ComesToKeysAsInitiator, ComesToKeysAsResponder, Introduction}
+use Rattle.ike.specs.Records.{ComesToKeysAsInitiator, ComesToKeysAsResponder, Introduction}
 
 -- What the types and the laws of the traits say of what a caller means by them: its numbers fit; what is
 -- sealed opens again, and is as long as is told, at most 128 octets longer than the plain text; both ends

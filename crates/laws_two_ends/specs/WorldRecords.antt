@@ -1,13 +1,9 @@
 -- How each end of a world comes to its keys in IKE_SA_INIT, by its steps (RFC 7296 sections 1.2 and 2.14).
 use Rattle.std.specs.Prelude.{◌≡◌, ℕ, List, Some, None, slice_get}
 use Rattle.base.specs.Octets.{Octets}
-use Rattle.wire.specs.Messages.{Spells}
-use Rattle.wire.specs.declared.message.Header.{Header}
-use Rattle.wire.specs.declared.message.Message.{Message}
 use Rattle.suite.specs.Callers.{IsSecret}
 use Rattle.suite.specs.declared.fresh.Fresh.{Fresh}
 use Rattle.suite.specs.declared.key_record.KeyRecord.{KeyRecord}
-use Rattle.sa_init.specs.Parts.{HasParts, PartsView}
 use Rattle.association.specs.Phases.{keys_in}
 use Rattle.association.specs.declared.phase.Association.{Association}
 use Rattle.association.specs.declared.phase.InitSent.{InitSent}
@@ -16,20 +12,11 @@ use Rattle.gateway.specs.Inputs as input
 use Rattle.gateway.specs.WorldHistories.{Happening}
 use Rattle.gateway.specs.Worlds.{gateway_at, WorldState}
 use Rattle.gateway.specs.declared.world.stored.End.{End}
-use Rattle.laws_two_ends.specs.Records.{Introduction}
+use Rattle.ike.specs.Records.{Introduction, SaysOfSender}
 
 -- all IKE SAs of an end, in the order in which they were made
 abbrev pub associations_at : {C : Type 0} → End → WorldState C → List Association
 associations_at {C} end w = (gateway_at end w).machine.held.associations
-
--- The octets are a message with the parts of IKE_SA_INIT, and say this of their sender, whose SPI stands
--- there in the header.
-pub record SaysOfSender (spi_of : Header → ℕ) (octets : Octets) (sender : Introduction) : Type 0 where
-  pub message : Message
-  pub spelled : Spells message octets
-  pub parts : PartsView
-  pub complete : HasParts message.payloads parts
-  pub is : sender ≡ record { spi = spi_of message.header; public = parts.public; nonce = parts.nonce }
 
 -- A datagram came to an end, and an IKE SA that waited for the response to IKE_SA_INIT has these keys
 -- from then on: this is what the IKE SA held of itself, and what the datagram says of its sender. A

@@ -2,12 +2,10 @@
 ghost use Rattle.std.specs.Prelude.{◌≡◌, ◌≤◌, ◌∷◌, ℕ, Contains, List, None, Some, slice_get};
 ghost use Rattle.base.specs.Octets.{Octets};
 ghost use Rattle.suite.specs.declared.key_record.KeyRecord.{KeyRecord};
-ghost use Rattle.suite.specs.declared.sealer.Cipher.{Cipher};
 ghost use Rattle.suite.specs.declared.fresh.Fresh.{Fresh};
 ghost use Rattle.association.specs.declared.phase.Association.{Association};
 ghost use Rattle.sadb.specs.Database.{pair_at};
 ghost use Rattle.sadb.specs.declared.pair.Pair.{Pair};
-ghost use Rattle.initial.specs.Reading.{Asker};
 ghost use Rattle.setup.specs.Configs.{IsConfig};
 ghost use Rattle.setup.specs.declared.config.Config.{Config};
 ghost use Rattle.effects.specs.Taking.{meaning_of, Meaning};
@@ -24,33 +22,22 @@ ghost use Rattle.gateway.specs.declared.world.stored.Datagram.{Datagram};
 ghost use Rattle.gateway.specs.declared.world.stored.End.{End};
 ghost use Rattle.gateway.specs.declared.world.stored.Protection.TheVariants as mark;
 ghost use Rattle.laws_two_ends.specs.GoingOut.{GoesOut, IsStoredAsSent};
-ghost use Rattle.laws_two_ends.specs.Records.{agreeing_by, ComesToKeysAsInitiator, ComesToKeysAsResponder, Introduction};
+ghost use Rattle.ike.specs.Records.{Introduction};
 ghost use Rattle.laws_two_ends.specs.WorkedRecords.{IsWorkedRecord};
 ghost use Rattle.laws_two_ends.specs.WorldRecords.{CameToKeysAsInitiator, CameToKeysAsResponder};
+ghost use Rattle.laws_two_ends.specs.WorkedExchanges.{IsWorkedExchange};
 ghost use Rattle.laws_two_ends.specs.WorkedChildren.{IsWorkedLink};
 ghost use Rattle.laws_two_ends.specs.WorkedRuns.{IsRunFromNewGateways};
 
 use gateway::laws::{
     ends_of_a_sound_world_agree, new_worlds_are_wholly_sound, windows_are_those_told,
 };
-use ike::laws::{no_spi_is_lost, soundness_stays};
+use ike::laws::{
+    both_ends_make_one_record, keys_come_by_what_is_read, no_spi_is_lost, soundness_stays,
+};
 use lockstep::laws::what_was_sent_under_keys_is_told;
 use suite::{Agreement, Proof, Sealer};
 use wire::laws::octets_spell_one_message;
-
-/// Where one call gave an end its keys as initiator, and one call an end as responder, each from the SPI,
-/// the value of the key exchange and the nonce that the other's IKE SA holds of itself (RFC 7296,
-/// section 2.14), both have one record of keys: by the agreement's law alone, whatever else the messages
-/// had, and whatever ciphers and groups the ends ask for.
-pub fn both_ends_make_one_record<C: Agreement>(caller: &C)
-    ensures { (asker : Asker) (theirs : Cipher) (their_group : ℕ)
-        (initiator responder : Introduction) (one other : KeyRecord)
-        → ComesToKeysAsInitiator (agreeing_by C.Agreement asker) initiator responder one
-        → ComesToKeysAsResponder theirs their_group C.public_value C.shared_secret responder initiator other
-        → one ≡ other }
-{
-    let _ = caller;
-}
 
 /// The premises of one record are met: an initiator and a responder come to one record of keys by the two
 /// messages of one IKE_SA_INIT, the initiator reading the very octets with which the responder answers the
@@ -64,7 +51,7 @@ pub fn the_premises_of_one_record_are_met()
 /// the SPI, the value of the key exchange and the nonce that the other holds of itself, both have one
 /// record of keys (RFC 7296, section 2.14). It asks neither that the world is sound nor that nothing was
 /// forged, and the steps may be those of whichever ends.
-pub fn the_ends_of_a_world_make_one_record<C: Sealer + Agreement + Proof>(caller: &C)
+pub fn the_ends_of_a_world_make_one_record<C: Sealer + Agreement + Proof>()
     ensures { (old new : WorldState C) (happenings : List (Happening C))
         → IsWorldTrail
         (meaning_of C.Sealer C.Agreement C.Proof)
@@ -76,8 +63,8 @@ pub fn the_ends_of_a_world_make_one_record<C: Sealer + Agreement + Proof>(caller
         → CameToKeysAsResponder C.public_value g responder initiator other
         → one ≡ other }
 {
-    let _ = caller;
-    octets_spell_one_message();
+    both_ends_make_one_record::<C>();
+    keys_come_by_what_is_read();
 }
 
 /// In a wholly sound world, as `gateway::run_world` keeps it, no more requests of an end wait for their
@@ -131,6 +118,19 @@ pub fn the_premises_of_both_ends_are_met<C>()
 /// values of whatever type: what the callers mean is fixed, hides nothing, and keeps the laws of the traits.
 pub fn the_premises_are_met_from_new_gateways_on<C>()
     ensures { (a b : C) → IsRunFromNewGateways a b }
+{
+    new_worlds_are_wholly_sound::<C>();
+    no_spi_is_lost();
+    octets_spell_one_message();
+    soundness_stays();
+    what_was_sent_under_keys_is_told();
+}
+
+/// The premises of `gateway::laws::both_ends_hold_one_record` are met, by a run of two new gateways whose callers hide
+/// nothing: the one in which they set up an IKE SA and its first Child SA. Every datagram
+/// comes once, as it was sent.
+pub fn the_premises_of_an_exchange_are_met<C>()
+    ensures { (a b : C) → IsWorkedExchange a b }
 {
     new_worlds_are_wholly_sound::<C>();
     no_spi_is_lost();

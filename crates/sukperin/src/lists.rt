@@ -64,7 +64,7 @@ pub extern "C" fn suk_esp_all(
     let Some(mut boxed) = handle.take(alloc) else {
         return Refusal::NoEnd.code();
     };
-    let code = open_all(alloc, &mut boxed, octets, places, outs);
+    let code = open_all(&mut boxed, octets, places, outs);
     handle.put_back(boxed);
     code
 }
@@ -100,43 +100,30 @@ pub extern "C" fn suk_outward_all(
 }
 
 // Gives the packets to an end, if it is a gateway.
-fn open_all(
-    alloc: Global,
-    end: &mut End,
-    octets: &[u8],
-    places: &[SukPlace],
-    outs: &mut [SukOutput],
-) -> u32
+fn open_all(end: &mut End, octets: &[u8], places: &[SukPlace], outs: &mut [SukOutput]) -> u32
     ensures { OpensAll octets.now places.now (Some end.old) result (Some end.new) outs.old outs.new }
 {
     let End::Gateway(hosted) = end else {
         return Refusal::NoEnd.code();
     };
-    open_by(alloc, hosted, octets, places, outs)
+    open_by(hosted, octets, places, outs)
 }
 
 // Gives the packets to a gateway, if there are records enough.
-fn open_by(
-    alloc: Global,
-    hosted: &mut Hosted,
-    octets: &[u8],
-    places: &[SukPlace],
-    outs: &mut [SukOutput],
-) -> u32
+fn open_by(hosted: &mut Hosted, octets: &[u8], places: &[SukPlace], outs: &mut [SukOutput]) -> u32
     ensures { OpensBy octets.now places.now hosted.old result hosted.new outs.old outs.new }
 {
     let few = outs.len() < places.len();
     if few {
         return Refusal::ShortRoom.code();
     }
-    open_groups(alloc, &mut hosted.gateway, octets, places, outs);
+    open_groups(&mut hosted.gateway, octets, places, outs);
     hosted.left = Left::Nothing;
     0
 }
 
 // Takes ESP packets in order, in groups of up to 64.
 fn open_groups(
-    alloc: Global,
     gateway: &mut Gateway<PeerCaller>,
     octets: &[u8],
     places: &[SukPlace],
@@ -149,7 +136,6 @@ fn open_groups(
         let start = GROUP * group;
         let count = (places.len() - start).min(GROUP);
         open_next(
-            alloc,
             gateway,
             octets,
             &places[start..start + count],
@@ -160,7 +146,6 @@ fn open_groups(
 
 // Takes up to 64 ESP packets in order.
 fn open_next(
-    alloc: Global,
     gateway: &mut Gateway<PeerCaller>,
     octets: &[u8],
     places: &[SukPlace],
@@ -171,15 +156,14 @@ fn open_next(
     ensures { Runs (TakesEspAt octets.now) places.now outs.new gateway.old gateway.new }
 {
     if places.len() <= FEW {
-        open_few(alloc, gateway, octets, places, outs);
+        open_few(gateway, octets, places, outs);
     } else {
-        open_group(alloc, gateway, octets, places, outs);
+        open_group(gateway, octets, places, outs);
     }
 }
 
 // The same of a few packets.
 fn open_few(
-    alloc: Global,
     gateway: &mut Gateway<PeerCaller>,
     octets: &[u8],
     places: &[SukPlace],
@@ -194,13 +178,12 @@ fn open_few(
     let inputs = &mut inputs[..places.len()];
     set_inputs(octets, places, inputs);
     gateway.compute_ahead(inputs, &mut ahead);
-    open_each(alloc, gateway, octets, places, &ahead, outs);
+    open_each(gateway, octets, places, &ahead, outs);
 }
 
 // The same of more packets. Not inlined, so that a few don't clear its arrays.
 #[inline(never)]
 fn open_group(
-    alloc: Global,
     gateway: &mut Gateway<PeerCaller>,
     octets: &[u8],
     places: &[SukPlace],
@@ -215,12 +198,11 @@ fn open_group(
     let inputs = &mut inputs[..places.len()];
     set_inputs(octets, places, inputs);
     gateway.compute_ahead(inputs, &mut ahead);
-    open_each(alloc, gateway, octets, places, &ahead, outs);
+    open_each(gateway, octets, places, &ahead, outs);
 }
 
 // Takes ESP packets in order, with those ICVs that were computed ahead.
 fn open_each(
-    alloc: Global,
     gateway: &mut Gateway<PeerCaller>,
     octets: &[u8],
     places: &[SukPlace],
@@ -232,13 +214,12 @@ fn open_each(
     ensures { Runs (TakesEspAt octets.now) places.now outs.new gateway.old gateway.new }
 {
     for (turn, place) in places.iter().enumerate() {
-        outs[turn] = open_one(alloc, gateway, octets, place, value_at(ahead, turn));
+        outs[turn] = open_one(gateway, octets, place, value_at(ahead, turn));
     }
 }
 
 // Takes the ESP packet at a place, with its ICV where that was computed ahead.
 fn open_one(
-    alloc: Global,
     gateway: &mut Gateway<PeerCaller>,
     octets: &[u8],
     place: &SukPlace,
@@ -250,12 +231,11 @@ fn open_one(
     let Some(packet) = place.packet_in(octets) else {
         return SukOutput::refused(Refusal::Place);
     };
-    open_packet(alloc, gateway, packet, ahead)
+    open_packet(gateway, packet, ahead)
 }
 
 // Takes an ESP packet, with its ICV where that was computed ahead.
 fn open_packet(
-    alloc: Global,
     gateway: &mut Gateway<PeerCaller>,
     packet: &[u8],
     ahead: Option<Precomputed>,
@@ -263,8 +243,7 @@ fn open_packet(
     requires { IfSome ahead (IsPrecomputed packet.now) }
     ensures { TakesEsp packet.now gateway.old result gateway.new }
 {
-    let traced = gateway.traced_step_ahead(alloc, &Input::Esp { octets: packet }, ahead);
-    SukOutput::of(&traced.output, &traced.trace)
+    SukOutput::of_arrival(&gateway.receive_ahead(packet, ahead))
 }
 
 // Sets the input at each place, for what is computed ahead.

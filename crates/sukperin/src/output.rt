@@ -1,10 +1,12 @@
 //! What came of an input, as C reads it.
 ghost use Rattle.std.specs.Prelude.{◌≡◌};
-ghost use Rattle.gateway.specs.Outputs.{output_view};
+ghost use Rattle.gateway.specs.Outputs.{output_view, view_of_outcome};
+ghost use Rattle.ike.specs.Outputs.{no_trace};
 ghost use Rattle.sukperin.specs.Outputs.{child_in, ike_in, of_kind, refused_alone, serial_of, told_of, with_code};
+ghost use Rattle.traffic.specs.Outcomes.{outcome_of_arrival};
 
 use crate::refusal::Refusal;
-use gateway::{Output, Reason, Trace};
+use gateway::{Arrival, Output, Reason, Trace};
 
 /// What came of an input. A serial that is 0 names nothing. What a kind doesn't tell is 0.
 #[repr(C)]
@@ -130,6 +132,31 @@ impl SukOutput {
             Output::Discarded => SukOutput::of_kind(11),
             Output::Dropped { reason } => SukOutput::with_code(12, *reason),
             Output::Refused { reason } => SukOutput::with_code(13, *reason),
+        }
+    }
+
+    // What an ESP packet that came, and the empty trace of its step, come to.
+    pub fn of_arrival(arrival: &Arrival<'_>) -> SukOutput
+        ensures { result ≡ told_of (view_of_outcome (outcome_of_arrival arrival.now)) no_trace }
+    {
+        match arrival {
+            Arrival::Up {
+                child,
+                number,
+                packet,
+            } => SukOutput {
+                child: *child,
+                number: *number,
+                offset: 8,
+                length: packet.len() as u64,
+                ..SukOutput::of_kind(7)
+            },
+            Arrival::Dummy { child, number } => SukOutput {
+                child: *child,
+                number: *number,
+                ..SukOutput::of_kind(8)
+            },
+            Arrival::Dropped(fault) => SukOutput::with_code(12, Reason::Packet(*fault)),
         }
     }
 

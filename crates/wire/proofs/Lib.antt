@@ -22,3 +22,4 @@ mod SizeLemmas
 mod LawLemmas
 mod FittingLemmas
 mod DeterminedSpellings
+mod ClearLemmas

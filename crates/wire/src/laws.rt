@@ -14,11 +14,14 @@ ghost use Rattle.wire.specs.declared.fault.WireFault.{WireFault};
 ghost use Rattle.wire.specs.declared.message.Message.{Message};
 ghost use Rattle.wire.specs.declared.payload.Payload.{Payload};
 
-/// Octets spell one message at most, and one chain of payloads at most.
+/// Octets spell one message at most, and one chain of payloads at most: also where one of two spellings has
+/// zeros in all that is reserved, and nothing is said of whether its payloads are encrypted.
 pub fn octets_spell_one_message()
     ensures message { (m n : Message) (b : Octets) → Spells m b → Spells n b → m ≡ n }
     ensures chain { (first : ℕ) (ps qs : List Payload) (b : Octets)
         → SpellsChain first ps b → SpellsChain first qs b → ps ≡ qs }
+    ensures plain_chain { (first : ℕ) (ps qs : List Payload) (b : Octets)
+        → SpellsPayloads IsZero first ps b → SpellsChain first qs b → ps ≡ qs }
 {}
 
 /// The first fault of a datagram, of a chain of payloads, and of a message to be encoded is one fault.

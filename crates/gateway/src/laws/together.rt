@@ -1,6 +1,6 @@
 //! What two gateways agree on beside their requests: Child SAs, packets and windows.
 ghost use Rattle.effects.specs.Taking.{meaning_of};
-ghost use Rattle.gateway.specs.LawsOfBothEnds.{BothEndsKeepTheirPromises, CallsInARowKeepBothEnds, NewWorldsAreWhollySound, WindowsAccountedForFit, WindowsStayAccountedFor};
+ghost use Rattle.gateway.specs.LawsOfBothEnds.{BothEndsHoldOneRecord, BothEndsKeepTheirPromises, CallsInARowKeepBothEnds, NewWorldsAreWhollySound, WindowsAccountedForFit, WindowsStayAccountedFor};
 ghost use Rattle.std.specs.Prelude.{◌≡◌, ℕ, Contains, List, Some, slice_get};
 ghost use Rattle.base.specs.Octets.{Octets};
 ghost use Rattle.suite.specs.declared.key_record.KeyRecord.{KeyRecord};
@@ -17,8 +17,14 @@ use crate::laws::every_world_stays_sound;
 use auth::laws::windows_are_read_again;
 use children::laws::children_mirror;
 use deliveries::laws::{every_list_of_packets_is_judged, other_changes_leave_windows};
+use effects::laws::associations_stay_themselves;
 use further::laws::further_children_mirror;
-use ike::laws::{one_association_is_changed, steps_are_moves, traces_name_what_is_held};
+use ike::laws::{
+    both_ends_make_one_record, each_association_is_sound, each_association_was_there_or_came,
+    first_requests_tell_what_is_held, keys_come_by_what_is_read, one_association_is_changed,
+    soundness_stays, steps_are_moves, traces_name_what_is_held, what_goes_out_under_keys_is_sealed,
+    what_is_told_was_taken, who_waits_keeps_its_offer,
+};
 use lockstep::laws::{each_party_stays_sound, what_was_sent_under_keys_is_told};
 use moments::laws::some_are_held_on;
 use suite::{Agreement, Proof, Sealer};
@@ -34,6 +40,29 @@ pub fn new_worlds_are_wholly_sound<C>()
     every_world_stays_sound::<C>();
 }
 
+/// Both ends hold one record of keys (RFC 7296, sections 1.2, 2.6 and 2.14). Over every history of a world of
+/// two gateways, take an IKE SA of one end and one of the other, each by its serial. The first sent a request
+/// of IKE_SA_INIT, of which the second was made; and what the second answered gave the first its keys. Then,
+/// where both are held after the history, they have one record of keys.
+///
+/// It asks for these octets, and that secrets have their 32 octets, as their type says: neither that one record is known to be theirs, nor that the world is
+/// sound under it, nor that nothing was forged. Cookies, copies and whatever else came between change nothing.
+/// That both came to one record follows by the agreement's law.
+pub fn both_ends_hold_one_record<C: Sealer + Agreement + Proof>()
+    ensures { BothEndsHoldOneRecord C (meaning_of C.Sealer C.Agreement C.Proof) }
+{
+    associations_stay_themselves();
+    both_ends_make_one_record::<C>();
+    each_association_is_sound();
+    each_association_was_there_or_came();
+    first_requests_tell_what_is_held();
+    keys_come_by_what_is_read();
+    plain_spellings_are_spellings();
+    soundness_stays();
+    traces_name_what_is_held();
+    who_waits_keeps_its_offer();
+}
+
 /// Every list of events, whatever its history, keeps what is promised of both ends beside their requests.
 /// The Child SAs that both ends made of one request mirror each other. Each was made of the payloads of that
 /// request and of its response, which one end sealed and the other opened (RFC 7296, sections 2.9 and
@@ -42,9 +71,11 @@ pub fn both_ends_keep_their_promises<C: Sealer + Agreement + Proof>()
     ensures { BothEndsKeepTheirPromises C C.body_of C.plain_of (meaning_of C.Sealer C.Agreement C.Proof) }
 {
     a_packet_takes_one_number();
+    both_ends_hold_one_record::<C>();
     every_list_of_packets_is_judged();
     every_world_stays_sound::<C>();
     children_mirror();
+    each_association_is_sound();
     further_children_mirror();
     ike::laws::children_are_made_of_their_messages();
     ike::laws::keys_stay_whole();
@@ -57,6 +88,7 @@ pub fn both_ends_keep_their_promises<C: Sealer + Agreement + Proof>()
     steps_are_moves();
     traces_name_what_is_held();
     traffic::laws::later_tables_follow();
+    what_goes_out_under_keys_is_sealed();
     what_one_end_seals_the_other_hands_up();
     windows_are_those_told::<C>();
 }
@@ -79,7 +111,10 @@ pub fn windows_are_those_told<C: Sealer + Agreement + Proof>()
     ensures stays { WindowsStayAccountedFor C C.body_of C.plain_of (meaning_of C.Sealer C.Agreement C.Proof) }
     ensures fit { WindowsAccountedForFit C C.body_of C.plain_of }
 {
+    each_association_is_sound();
     each_party_stays_sound();
+    what_goes_out_under_keys_is_sealed();
+    what_is_told_was_taken();
     what_was_sent_under_keys_is_told();
     effects::laws::associations_stay_themselves();
     effects::laws::requests_are_remembered();

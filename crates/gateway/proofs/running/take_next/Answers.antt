@@ -62,5 +62,5 @@ returns-clause-next g c =
       | else-start-len w ↦ ap (λ o. o.items) w.outputs-is ∙ sym (nothing_laid old.table.pairs items c.args.start (omega (arith, within)))
     ]
     in
-    takes_other meaning_of (input_view c.args.input.now) old c.traced_step_ahead-output.new.self c.args.start c.len-2.result items _ c.push_reserved-2.new.self.items c.traced_step_ahead-output.result.output c.traced_step_ahead-output.result.trace
-    whole c.push_reserved-2.ensures.items (search rules) sound c.traced_step_ahead-output.ensures
+    takes_other meaning_of (input_view c.args.input.now) old c.output_of-output.new.gateway c.args.start c.len-2.result items _ c.push_reserved-2.new.self.items c.output_of-output.result c.output_of-output.ensures.trace
+    whole c.push_reserved-2.ensures.items (search rules) sound c.output_of-output.ensures.traces

@@ -26,6 +26,9 @@ returns g c =
       sound = c.keys_stay_whole.ensures.sound;
       whole = c.keys_stay_whole.ensures.stepped;
       one_message = c.octets_spell_one_message.ensures.message;
+      first = c.what_goes_out_under_keys_is_sealed.ensures.first;
+      each_sound = c.each_association_is_sound.ensures.sound;
+      each_whole = c.each_association_is_sound.ensures.whole;
     } in
     let mirrors : MirrorLaws = record { first = c.children_mirror.ensures; further = c.further_children_mirror.ensures.children } in
     let pairs : PairLaws = record {
@@ -50,10 +53,9 @@ returns g c =
     let carry : CarryLaws = record { up = c.a_packet_takes_one_number.ensures.up; handed = c.what_one_end_seals_the_other_hands_up.ensures } in
     let opens : OpenLaws body_of plain_of = record {
       spells = c.plain_spellings_are_spellings.ensures.message;
-      spells_payloads = c.plain_spellings_are_spellings.ensures.payloads;
       one_message = c.octets_spell_one_message.ensures.message;
-      one_chain = c.octets_spell_one_message.ensures.chain;
+      plain_chain = c.octets_spell_one_message.ensures.plain_chain;
       again = g.met.C.Sealer.opens_again;
     } in
     λ happenings old new trail. both_ends_promises turns kin mirrors pairs carry _ body_of plain_of (record { body = λ caller. refl; plain = λ caller. refl }) opens happenings old new trail (c.every_world_stays_sound.ensures.trail _ happenings old new trail)
-    (λ keys sound known unforged once. c.windows_are_those_told.ensures.stays keys happenings old new trail sound known unforged once) (λ keys known. c.windows_are_those_told.ensures.fit keys new known)
+    (λ keys sound known unforged once. c.windows_are_those_told.ensures.stays keys happenings old new trail sound known unforged once) (λ keys known. c.windows_are_those_told.ensures.fit keys new known) (c.both_ends_hold_one_record.ensures happenings old new trail)

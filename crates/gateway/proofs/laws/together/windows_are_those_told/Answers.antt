@@ -3,8 +3,7 @@ use Rattle.gateway.proofs.ChildLemmas.{ChildLaws}
 use Rattle.gateway.proofs.MoveLemmas.{TurnLaws}
 use Rattle.gateway.proofs.OpenLemmas.{OpenLaws}
 use Rattle.gateway.proofs.SoundWorldLemmas.{PartyLaws}
-use Rattle.gateway.proofs.WindowLemmas.{WindowLaws}
-use Rattle.gateway.proofs.WindowWorldLemmas.{windows_fit, windows_stay, PeersLaws}
+use Rattle.gateway.proofs.WindowWorldLemmas.{windows_fit, windows_stay, PeersLaws, SealingLaws}
 use Rattle.gateway.proofs.laws.together.windows_are_those_told.Goals as goal
 
 pub returns-clause-stays : goal.returns-clause-stays
@@ -31,10 +30,13 @@ returns-clause-stays g c =
       sound = c.keys_stay_whole.ensures.sound;
       whole = c.keys_stay_whole.ensures.stepped;
       one_message = c.octets_spell_one_message.ensures.message;
+      first = c.what_goes_out_under_keys_is_sealed.ensures.first;
+      each_sound = c.each_association_is_sound.ensures.sound;
+      each_whole = c.each_association_is_sound.ensures.whole;
     } in
-    let windows : WindowLaws = record {
-      told = c.windows_are_read_again.ensures.told;
-      answer = c.windows_are_read_again.ensures.answer;
+    let windows : SealingLaws = record {
+      sealed = c.what_goes_out_under_keys_is_sealed.ensures.sealed;
+      taken = c.what_is_told_was_taken.ensures;
       bounds = c.windows_are_read_again.ensures.bounds;
     } in
     let peers : PeersLaws = record {
@@ -48,9 +50,8 @@ pub returns-clause-fit : goal.returns-clause-fit
 returns-clause-fit g c =
     let opens : OpenLaws g.C.Sealer.body_of g.C.Sealer.plain_of = record {
       spells = c.plain_spellings_are_spellings.ensures.message;
-      spells_payloads = c.plain_spellings_are_spellings.ensures.payloads;
       one_message = c.octets_spell_one_message.ensures.message;
-      one_chain = c.octets_spell_one_message.ensures.chain;
+      plain_chain = c.octets_spell_one_message.ensures.plain_chain;
       again = g.met.C.Sealer.opens_again;
     } in
     λ keys world known. windows_fit g.C.Sealer.body_of g.C.Sealer.plain_of opens keys world known

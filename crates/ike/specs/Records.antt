@@ -1,6 +1,8 @@
 -- How each end of an IKE SA comes to its keys in IKE_SA_INIT (RFC 7296 sections 1.2 and 2.14).
 use Rattle.std.specs.Prelude.{◌≡◌, ℕ, Option, Some}
 use Rattle.base.specs.Octets.{Octets}
+use Rattle.wire.specs.Messages.{Spells}
+use Rattle.wire.specs.declared.message.Header.{Header}
 use Rattle.wire.specs.declared.message.Message.{Message}
 use Rattle.suite.specs.Callers.{IsSecret}
 use Rattle.suite.specs.declared.agreement.Agreement as Agreement
@@ -64,3 +66,12 @@ pub record ComesToKeysAsResponder (cipher : Cipher) (group : ℕ) (public_value 
   pub secret : IsSecret fresh.secret
   pub own_is : own ≡ record { spi = fresh.spi; public = public_value fresh.secret; nonce = fresh.nonce }
   pub other_is : other ≡ record { spi = spi_i; public = offer.public; nonce = offer.nonce }
+
+-- The octets are a message with the parts of IKE_SA_INIT, and say this of their sender, whose SPI stands
+-- there in the header.
+pub record SaysOfSender (spi_of : Header → ℕ) (octets : Octets) (sender : Introduction) : Type 0 where
+  pub message : Message
+  pub spelled : Spells message octets
+  pub parts : PartsView
+  pub complete : HasParts message.payloads parts
+  pub is : sender ≡ record { spi = spi_of message.header; public = parts.public; nonce = parts.nonce }

@@ -16,7 +16,7 @@ use Rattle.association.specs.declared.phase.InitSent.{InitSent}
 use Rattle.setup.specs.Configs.{Setup}
 use Rattle.initial.specs.Reading.{Asker, Continues, waiting_of}
 use Rattle.initial.specs.declared.reading.Continued.TheVariants as continued
-use Rattle.laws_two_ends.specs.Records.{ComesToKeysAsInitiator, ComesToKeysAsResponder, Introduction}
+use Rattle.ike.specs.Records.{ComesToKeysAsInitiator, ComesToKeysAsResponder, Introduction}
 
 abbrev pub IsSymmetric : (Octets → Octets) → (Octets → Octets → Option Octets) → Type 0
 IsSymmetric public_value shared_secret = (a b : List ℕ) → IsSecret a → IsSecret b → shared_secret a (public_value b) ≡ shared_secret b (public_value a)

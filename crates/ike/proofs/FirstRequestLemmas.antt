@@ -1,10 +1,8 @@
--- By what an end that came to keys asks for its first Child SA, and that a message of a step is stored.
-use Rattle.std.proofs.Common.{◌≡◌, ℕ, suc, Bool, true, false, List, [], ◌∷◌, Option, Some, None, Contains, Result, Ok, Err, slice_get, map, cond, inl, inr, sym, ap, subst, ◌∙◌}
+-- An IKE SA that is found is sound; and keys that come with a request come with that of number 1.
+use Rattle.std.proofs.Common.{◌≡◌, ℕ, suc, Bool, true, false, List, [], ◌∷◌, Option, Some, None, Result, Ok, Err, slice_get, cond, inl, inr, sym, ap, ◌∙◌}
 use Rattle.std.specs.List.{find, position}
-use Rattle.std.proofs.lemmas.List.Elements.{Contains-append_left, Contains-append_right}
 use Rattle.base.specs.Octets.{Octets}
 use Rattle.wire.specs.declared.message.Message.{Message}
-use Rattle.suite.specs.declared.key_record.KeyRecord.{KeyRecord}
 use Rattle.sadb.specs.Database.{Database}
 use Rattle.sa_init.specs.Cookies.{CookieSecrets}
 use Rattle.sa_init.specs.Judging.{Accepted, Answered, Full, Incomplete, JudgementView}
@@ -17,25 +15,16 @@ use Rattle.effects.specs.Taking.{Meaning}
 use Rattle.effects.specs.declared.taking.Effect.{Effect}
 use Rattle.effects.specs.declared.taking.Effect.TheVariants as effect
 use Rattle.ike.specs.Lengths.{HoldWholeKeys}
-use Rattle.ike.specs.Machines.{association_of, has_serial, keys_of_serial, Held, Machine}
+use Rattle.ike.specs.Machines.{association_of, has_serial, Held, Machine}
 use Rattle.ike.specs.Outputs.{plain_step, request_mark, stepped_of}
 use Rattle.ike.specs.Receiving.{is_answered, is_initial_request, is_sound_initial, DoesJudgement, TakesDatagram, TakesFound, TakesRead, TakesRequestAt, TakesSound}
 use Rattle.ike.specs.Soundness.{IsSound, IsSoundMachine}
 use Rattle.ike.specs.declared.output.IkeOutput.{IkeOutput}
 use Rattle.ike.specs.declared.output.IkeOutput.TheVariants as output
-use Rattle.ike.specs.declared.output.Mark as marks
 use Rattle.ike.specs.declared.output.Stepped.{Stepped}
-use Rattle.ike.specs.declared.output.Trace.{Trace}
-use Rattle.gateway.specs.Outputs.{OutputView}
-use Rattle.gateway.specs.States.{State}
-use Rattle.gateway.specs.WorldParties.{HasSent}
-use Rattle.gateway.specs.Worlds.{again_as, datagram_of, ike_mark, mark_under, requests_in, sent_by, sent_once, storing, Stored}
-use Rattle.gateway.specs.declared.world.stored.End.{End}
-use Rattle.gateway.specs.declared.world.stored.Protection.{Protection}
-use Rattle.gateway.specs.declared.world.stored.Protection.TheVariants as mark
-use Rattle.gateway.proofs.MoveLemmas.{said_octets}
-use Rattle.gateway.proofs.PartyLemmas.{none_some}
-use Rattle.gateway.proofs.TurnLemmas.{is_once}
+
+none_some : {T : Type 0} (x : T) → None ≡ Some x → ⊥
+none_some {T} x is = cc
 
 -- ---- what is found stands at a place
 
@@ -60,19 +49,6 @@ pub whole_at : (held : Held) (serial : ℕ) (a : Association) → HoldWholeKeys 
 whole_at held serial a whole there =
     let is = placed (has_serial serial) held.associations a there in
     whole is.place a is.at
-
--- ---- a message under SK is stored
-
-pub stored_message : {C : Type 0} (end : End) (s : OutputView) (trace : Trace) (gateway : State C) (old : Stored) (serial number : ℕ) (response : Bool) (octets : Octets) (keys : KeyRecord)
-    → trace.sent ≡ Some (record { ike = serial; response = response; number = number }) → said_octets s ≡ Some octets → keys_of_serial serial gateway.machine.held.associations ≡ Some keys
-    → HasSent end keys response number octets (storing end s trace gateway old)
-stored_message {C} end s trace gateway old serial number response octets keys marked said keyed =
-    let sent = datagram_of end (mark.Ike keys response number) octets in
-    let by : ike_mark gateway.machine trace.sent ≡ mark.Ike keys response number =
-    ap (λ (o : Option marks.Mark). ike_mark gateway.machine o) marked ∙ ap (λ (k : Option KeyRecord). mark_under (record { ike = serial; response = response; number = number }) k) keyed in
-    Contains-append_right old.sent (sent_by end s trace.sent gateway) sent
-    (Contains-append_left (sent_once end s trace.sent gateway) (map (again_as end gateway.machine) (requests_in s)) sent
-    (subst (λ (m : Protection). Contains (sent_once end s trace.sent gateway) (datagram_of end m octets)) by (is_once end s trace.sent gateway octets said)))
 
 -- ---- keys that come with a request: that is the one of number 1
 

@@ -6,9 +6,11 @@ use Rattle.byteorder.specs.Endian.{big_bytes, big_number}
 use Rattle.byteorder.specs.Numbers.{big_number-reads_back, length-bytes_high_first}
 use Rattle.base.specs.Octets.{IsOctet}
 use Rattle.wire.specs.Parts.{IsPart, IsZero}
-use Rattle.wire.specs.Payloads.{following, type_of, IsClear, SpellsPayloads}
+use Rattle.wire.specs.Payloads.{following, type_of, IsClear, SpellsChain, SpellsPayloads}
 use Rattle.wire.specs.declared.payload.Payload.{Payload}
 use Rattle.wire.specs.declared.payload.Payload.TheVariants.{Sa, Ke, IdI, IdR, Auth, Nonce, Notify, Delete, TsI, TsR, Sealed, Skipped, Unknown}
+use Rattle.wire.proofs.LawLemmas.{one_chain}
+use Rattle.wire.proofs.WrittenPayloads.{payloads_weaken}
 
 -- two parts at the front of one list name the same type, and the same stands behind them
 record AreOne (next other : ℕ) (rest left : List ℕ) : Type 0 where
@@ -63,7 +65,7 @@ some_front next second body front rest p none = (
     let no : length ((next ∷ second ∷ big_bytes 2 (4 + length body) ++ body) ++ rest) ≡ 0 = ap length empty in
     absurd (omega (arith, no)))
 
-pub clear_so : (first : ℕ) (ps qs : List Payload) (x : List ℕ) → SpellsPayloads IsZero first ps x → SpellsPayloads IsOctet first qs x → AllByRecursion IsClear qs → AllByRecursion IsClear ps
+clear_so : (first : ℕ) (ps qs : List Payload) (x : List ℕ) → SpellsPayloads IsZero first ps x → SpellsPayloads IsOctet first qs x → AllByRecursion IsClear qs → AllByRecursion IsClear ps
 clear_so first [] qs x s t clear = tt
 clear_so first (p ∷ ps) [] x s t clear =
     let j = s.2 in
@@ -79,3 +81,12 @@ clear_so first (p ∷ ps) (q ∷ qs) x s t clear =
     let moved : SpellsPayloads IsOctet s.1 qs j.rest =
     subst (λ (n : ℕ). SpellsPayloads IsOctet n qs j.rest) (sym one.type_is) (subst (λ (r : List ℕ). SpellsPayloads IsOctet t.1 qs r) (sym one.rest_is) others) in
     (own, clear_so s.1 ps qs j.rest behind moved clear.1)
+
+-- so they are the same payloads
+pub plain_chain : (first : ℕ) (ps qs : List Payload) (x : List ℕ) → SpellsPayloads IsZero first ps x → SpellsChain first qs x → ps ≡ qs
+plain_chain first ps qs x spelled chain =
+    one_chain first ps qs x (record {
+      clear = clear_so first ps qs x spelled chain.payloads chain.clear;
+      payloads = payloads_weaken first ps x spelled;
+      octets = chain.octets;
+    }) chain

@@ -1,6 +1,6 @@
-use Rattle.laws_two_ends.specs.Records.{agreeing_by}
-use Rattle.laws_two_ends.proofs.RecordLemmas.{one_record}
-use Rattle.laws_two_ends.proofs.laws.both_ends_make_one_record.Goals as goal
+use Rattle.ike.specs.Records.{agreeing_by}
+use Rattle.ike.proofs.RecordLemmas.{one_record}
+use Rattle.ike.proofs.laws.records.both_ends_make_one_record.Goals as goal
 
 pub returns : goal.returns
 returns g c asker theirs their_group initiator responder one other i r =

@@ -1,4 +1,5 @@
--- What an end sends under keys tells no wider window than it is set to.
+-- What a step sends under keys it seals, and tells no wider window than this end is set to; and at which
+-- IKE SA a message was taken.
 use Rattle.std.proofs.Common.{◌≡◌, ◌⊎◌, ◌<◌, ◌≤◌, ◌==◌, ℕ, zero, suc, Bool, true, false, List, [], ◌∷◌, Option, Some, None, Result, Ok, Err, length, slice_get, slice_set, cond, inl, inr, refl, sym, ap, subst, ◌∙◌, arith}
 use Rattle.std.specs.Prelude.{option_and_then}
 use Rattle.std.specs.List.{find, position}
@@ -12,13 +13,11 @@ use Rattle.wire.specs.declared.fault.WireFault.{WireFault}
 use Rattle.wire.specs.declared.message.Message.{Message}
 use Rattle.wire.specs.declared.payload.Payload.{Payload}
 use Rattle.policy.specs.declared.entry.Entry.{Entry}
-use Rattle.suite.specs.declared.fresh.Fresh.{Fresh}
 use Rattle.suite.specs.declared.key_record.KeyRecord.{KeyRecord}
 use Rattle.suite.specs.declared.keys.Keys.{Keys}
 use Rattle.exchange.specs.Headers.{keys_of, sent_header}
 use Rattle.exchange.specs.Notices.{payload_of_notice}
 use Rattle.exchange.specs.Sealed.{IsSealed}
-use Rattle.exchange.specs.declared.headers.Role.{Role}
 use Rattle.exchange.specs.declared.notices.Notice.{Notice}
 use Rattle.exchange.specs.declared.notices.Notice.TheVariants as notice
 use Rattle.exchange.specs.declared.sealed.Plain.{Plain}
@@ -73,8 +72,9 @@ use Rattle.effects.specs.declared.taking.Effect.{Effect}
 use Rattle.effects.specs.declared.taking.Effect.TheVariants as effect
 use Rattle.ike.specs.Asking.{AsksAt, AsksFor, AsksFurther, AsksThat}
 use Rattle.ike.specs.Machines.{association_of, has_serial, keys_of_serial, setup_at, Held, Machine}
-use Rattle.ike.specs.Outputs.{closed_serial, octets_in, passed_over, plain_step, reply_mark, stepped_of}
+use Rattle.ike.specs.Outputs.{closed_serial, octets_in, passed_over, plain_step, stepped_of}
 use Rattle.ike.specs.Receiving.{is_answered, is_initial_request, is_sound_initial, DoesJudgement, TakesDatagram, TakesFound, TakesRead, TakesRequestAt, TakesSound}
+use Rattle.ike.specs.Sealing.{GoesOutUnderKeys, IsRepeatedOrSealed, SealsNow, TakenBy, TellsOfMessageAt}
 use Rattle.ike.specs.Soundness.{AreSound, IsSoundMachine}
 use Rattle.ike.specs.Steps as ike
 use Rattle.ike.specs.Orders.{OrderView}
@@ -84,8 +84,13 @@ use Rattle.ike.specs.declared.output.IkeOutput.{IkeOutput}
 use Rattle.ike.specs.declared.output.IkeOutput.TheVariants as output
 use Rattle.ike.specs.declared.output.Mark as marks
 use Rattle.ike.specs.declared.output.Stepped.{Stepped}
-use Rattle.gateway.proofs.PartyLemmas.{none_some, some_is}
 use Rattle.association.specs.Outcomes.{closed_by, made_by}
+
+some_is : {T : Type 0} (x y : T) → Some x ≡ Some y → x ≡ y
+some_is {T} x y is = cc
+
+none_some : {T : Type 0} (x : T) → None ≡ Some x → ⊥
+none_some {T} x is = cc
 
 -- ---- the IKE SA at a place is that of its serial
 
@@ -166,27 +171,6 @@ request_tells laws own_method proof_of own what child window is =
     omega (arith, same, own_is)
 
 -- ---- what a step seals
-
--- these are what is fresh to the step
-abbrev pub IsFreshOf : ike.InputView → Fresh → Type 0
-IsFreshOf (ike.Message from octets given) fresh = given ≡ fresh
-IsFreshOf (ike.Start serial place given) fresh = given ≡ fresh
-IsFreshOf (ike.Order what given) fresh = given ≡ fresh
-IsFreshOf (ike.Secret secret) fresh = ⊥
-IsFreshOf (ike.Tick moment) fresh = ⊥
-
--- a message goes out of a step: sealed under the keys of its IKE SA, which are there before or after,
--- with these fresh octets
-pub record SealsNow (body_of : Keys → Octets → Octets → Octets → Octets) (old new : Held) (window : ℕ) (fresh : Fresh) (m : marks.Mark) (octets : Octets) : Type 0 where
-  pub keys : KeyRecord
-  pub keyed : (keys_of_serial m.ike old.associations ≡ Some keys) ⊎ (keys_of_serial m.ike new.associations ≡ Some keys)
-  pub role : Role
-  pub spi_i : ℕ
-  pub spi_r : ℕ
-  pub exchange : ℕ
-  pub payloads : List Payload
-  pub sealed : IsSealed body_of (keys_of role keys) fresh.seal (record { header = sent_header spi_i spi_r exchange role m.response m.number; payloads = payloads }) octets
-  pub tells : peer_window payloads ≤ window
 
 keys_there : (serial : ℕ) (associations : List Association) (a : Association) (keys : KeyRecord) → association_of serial associations ≡ Some a → keys_in a.phase ≡ Some keys → keys_of_serial serial associations ≡ Some keys
 keys_there serial associations a keys there keyed = ap (λ (o : Option Association). option_and_then (λ x. keys_in x.phase) o) there ∙ keyed
@@ -376,13 +360,10 @@ module _ (laws : WindowLaws) (meaning : Meaning) (setup : Setup) (window_is : Is
 
 -- ---- by a datagram
 
-abbrev pub Goes : (Keys → Octets → Octets → Octets → Octets) → Held → Held → ℕ → Fresh → marks.Mark → IkeOutput → Octets → Type 0
-Goes body_of old new window fresh m o octets = (o ≡ output.Repeat octets) ⊎ SealsNow body_of old new window fresh m octets
-
 module _ (laws : WindowLaws) (meaning : Meaning) (setup : Setup) (window_is : IsWindow setup.config.window) (cookies : CookieSecrets) (from octets : Octets) (m : Message) (old : Held) (table : Database) (sound : AreSound old table)
     (stepped : Stepped) (new : Held) (new_table : Database) (mark : marks.Mark) (sent : Octets) (named : stepped.trace.sent ≡ Some mark) (said : octets_in stepped.output ≡ Some sent) where
   abbrev IsSent : Type 0
-  IsSent = Goes meaning.body_of old new setup.config.window setup.fresh mark stepped.output sent
+  IsSent = IsRepeatedOrSealed meaning.body_of old new setup.config.window setup.fresh mark stepped.output sent
 
   none_sent : (o : IkeOutput) → stepped ≡ plain_step o → IsSent
   none_sent o is = absurd (none_some mark (sym (ap (λ (x : Stepped). x.trace.sent) is) ∙ named))
@@ -462,22 +443,22 @@ module _ (laws : WindowLaws) (meaning : Meaning) (setup : Setup) (window_is : Is
 
 pub step_goes : (laws : WindowLaws) (meaning : Meaning) (entries : List Entry) (view : ike.InputView) (old : Machine) (table : Database) (stepped : Stepped) (new : Machine) (new_table : Database)
     → IsSoundMachine old table → ike.Steps meaning entries view old table stepped new new_table → (mark : marks.Mark) (sent : Octets) → stepped.trace.sent ≡ Some mark → octets_in stepped.output ≡ Some sent
-    → (fresh : Fresh) × (IsFreshOf view fresh) × Goes meaning.body_of old.held new.held old.config.window fresh mark stepped.output sent
-step_goes laws meaning entries (ike.Message from octets fresh) old table stepped new new_table sound steps mark sent named said = (
-  fresh,
-  refl,
-  elim steps.1 [
+    → GoesOutUnderKeys meaning.body_of view old.held new.held old.config.window mark stepped.output sent
+step_goes laws meaning entries (ike.Message from octets fresh) old table stepped new new_table sound steps mark sent named said = record {
+  fresh = fresh;
+  own = refl;
+  goes = elim steps.1 [
     | inl fails ↦ absurd (none_some mark (sym (ap (λ (x : Stepped). x.trace.sent) fails.passed.said) ∙ named))
     | inr reads ↦ read_goes laws meaning (setup_at old entries fresh) sound.config.window old.cookies from octets reads.message old.held table sound.held stepped new.held new_table mark sent named said
         (is_initial_request reads.message.header) reads.done
-  ],
-)
+  ];
+}
 step_goes laws meaning entries (ike.Start None place fresh) old table stepped new new_table sound steps mark sent named said =
     absurd (none_some mark (sym (ap (λ (x : Stepped). x.trace.sent) steps.1.done.said) ∙ named))
 step_goes laws meaning entries (ike.Start (Some serial) place fresh) old table stepped new new_table sound steps mark sent named said =
-    (fresh, refl, inr (further_seals meaning.body_of (setup_at old entries fresh) serial _ _ old.held table stepped new.held new_table mark sent sound.config.window steps.1.asks named said))
+    record { fresh = fresh; own = refl; goes = inr (further_seals meaning.body_of (setup_at old entries fresh) serial _ _ old.held table stepped new.held new_table mark sent sound.config.window steps.1.asks named said) }
 step_goes laws meaning entries (ike.Order what fresh) old table stepped new new_table sound steps mark sent named said =
-    (fresh, refl, inr (ordered_seals meaning.body_of (setup_at old entries fresh) what old.held table stepped new.held new_table mark sent sound.config.window steps.1 named said))
+    record { fresh = fresh; own = refl; goes = inr (ordered_seals meaning.body_of (setup_at old entries fresh) what old.held table stepped new.held new_table mark sent sound.config.window steps.1 named said) }
 step_goes laws meaning entries (ike.Secret secret) old table stepped new new_table sound steps mark sent named said =
     absurd (none_some mark (sym (ap (λ (x : Stepped). x.trace.sent) steps.said) ∙ named))
 step_goes laws meaning entries (ike.Tick moment) old table stepped new new_table sound steps mark sent named said =
@@ -485,24 +466,8 @@ step_goes laws meaning entries (ike.Tick moment) old table stepped new new_table
 
 -- ---- the IKE SA that a message was taken by
 
--- what is told of a message that is matched, or is processed, at the IKE SA with this serial
-abbrev pub IsTold : Stepped → ℕ → Type 0
-IsTold stepped serial =
-    ((child : Option ℕ) × (closed : Option ℕ) × (stepped.output ≡ output.Counted serial child closed))
-    ⊎ ((number : ℕ) × (reply : Octets) × (closed : Option ℕ) × (stepped.output ≡ output.Reply reply closed) × (stepped.trace.sent ≡ reply_mark serial number))
-
-pub record TakenBy (meaning : Meaning) (setup : Setup) (octets : Octets) (old : Held) (table : Database) (new : Held) (new_table : Database) (serial : ℕ) : Type 0 where
-  pub message : Message
-  pub spelled : Spells message octets
-  pub was : Association
-  pub is : Association
-  pub effect : Effect
-  pub takes : TakesMessage meaning setup was table octets message effect is new_table
-  pub stood : association_of serial old.associations ≡ Some was
-  pub stands : is.serial ≡ was.serial → association_of serial new.associations ≡ Some is
-
 module _ (meaning : Meaning) (setup : Setup) (cookies : CookieSecrets) (from octets : Octets) (m : Message) (spelled : Spells m octets) (old : Held) (table : Database) (sound : AreSound old table)
-    (stepped : Stepped) (new : Held) (new_table : Database) (serial : ℕ) (told : IsTold stepped serial) where
+    (stepped : Stepped) (new : Held) (new_table : Database) (serial : ℕ) (told : TellsOfMessageAt stepped serial) where
   abbrev IsTaken : Type 0
   IsTaken = TakenBy meaning setup octets old table new new_table serial
 
@@ -596,12 +561,12 @@ module _ (meaning : Meaning) (setup : Setup) (cookies : CookieSecrets) (from oct
   taken_read true is = taken_sound (is_sound_initial m.header) is.0
   taken_read false is = taken_found (place_meant m.header old.associations) is
 
-failed_not : (stepped : Stepped) (serial : ℕ) (f : WireFault) → stepped ≡ passed_over (fault.Unread f) → IsTold stepped serial → ⊥
+failed_not : (stepped : Stepped) (serial : ℕ) (f : WireFault) → stepped ≡ passed_over (fault.Unread f) → TellsOfMessageAt stepped serial → ⊥
 failed_not stepped serial f is (inl counted) = (let no : output.Dropped (fault.Unread f) ≡ output.Counted serial counted.0 counted.1 = sym (ap (λ (x : Stepped). x.output) is) ∙ counted.2 in cc)
 failed_not stepped serial f is (inr replied) = none_some _ (sym (ap (λ (x : Stepped). x.trace.sent) is) ∙ replied.4)
 
 pub taken_by : (meaning : Meaning) (setup : Setup) (cookies : CookieSecrets) (from octets : Octets) (old : Held) (table : Database) → AreSound old table → (stepped : Stepped) (new : Held) (new_table : Database) (serial : ℕ)
-    → IsTold stepped serial → TakesDatagram meaning setup cookies from octets old table stepped new new_table → TakenBy meaning setup octets old table new new_table serial
+    → TellsOfMessageAt stepped serial → TakesDatagram meaning setup cookies from octets old table stepped new new_table → TakenBy meaning setup octets old table new new_table serial
 taken_by meaning setup cookies from octets old table sound stepped new new_table serial told (inl fails) = absurd (failed_not stepped serial fails.reason fails.passed.said told)
 taken_by meaning setup cookies from octets old table sound stepped new new_table serial told (inr reads) =
     taken_read meaning setup cookies from octets reads.message reads.spelled old table sound stepped new new_table serial told (is_initial_request reads.message.header) reads.done
