@@ -109,11 +109,12 @@ impl FlowMemory {
         ensures { IfSome result
             (λ treatment. Holds self.now (record { flow = flow.now; treatment = treatment })) }
     {
-        let note = (*self.places.get(place)?)?;
-        if note.epoch == self.epoch && is_same(&note.answer.flow, flow) {
-            Some(note.answer.treatment)
-        } else {
-            None
+        // By reference: a note is long, and most of it is only compared.
+        match self.places.get(place)? {
+            Some(note) if note.epoch == self.epoch && is_same(&note.answer.flow, flow) => {
+                Some(note.answer.treatment)
+            }
+            _ => None,
         }
     }
 

@@ -175,12 +175,14 @@ pub fn lay_behind<'a>(
     answers_stay_right();
     no_pair_comes();
     flows_are_determined();
-    let flow = match inner(packet) {
+    // By reference: a flow is long, and copied right after it was written it would be waited for.
+    let read = inner(packet);
+    let flow = match &read {
         Ok(flow) => flow,
-        Err(fault) => return Ok(Laid::Dropped(PacketFault::Inner(fault))),
+        Err(fault) => return Ok(Laid::Dropped(PacketFault::Inner(*fault))),
     };
-    let treatment = flows.treatment(table, policy, &flow);
-    depart(table, treatment, &flow, packet, out)
+    let treatment = flows.treatment(table, policy, flow);
+    depart(table, treatment, flow, packet, out)
 }
 
 // What was laid in a buffer of its own.

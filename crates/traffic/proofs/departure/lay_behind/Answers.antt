@@ -1,21 +1,21 @@
-use Rattle.std.specs.Prelude.{◌≡◌, refl}
+use Rattle.std.specs.Prelude.{◌≡◌, refl, IfOk, Result}
 use Rattle.std.proofs.Common.{subst}
 use Rattle.flows.specs.Memory.{HoldsTreatmentOf}
 use Rattle.flows.specs.Staying.{NoneComes}
 use Rattle.flows.specs.Treatments.{action_of}
 use Rattle.policy.specs.declared.entry.Action.TheVariants.{Protect}
+use Rattle.policy.specs.declared.fault.InnerFault.{InnerFault}
 use Rattle.policy.specs.declared.flow.Flow.{Flow}
+use Rattle.policy.specs.Packets.{IsFlowOf}
 use Rattle.sadb.specs.Database.{Database}
-use Rattle.traffic.specs.Outcomes.{Outcome}
-use Rattle.traffic.specs.Sending.{HasUnspentCarrier, Sends}
-use Rattle.traffic.specs.declared.fault.PacketFault.TheVariants.{Inner}
+use Rattle.traffic.specs.Sending.{HasUnspentCarrier}
 use Rattle.traffic.proofs.FollowingLemmas.{Keeps}
-use Rattle.traffic.proofs.BehindLemmas.{departs_behind, lays_nothing, sent_behind}
+use Rattle.traffic.proofs.BehindLemmas.{departs_behind, sent_behind}
 use Rattle.traffic.proofs.departure.lay_behind.Goals as goal
 
 pub returns-clause-sent : goal.returns-clause-sent
 returns-clause-sent c =
-    departs_behind c.args.table.now c.args.policy.now c.treatment-treatment.result c.in-Ok.flow c.args.packet.now c.args.out.now.items c.depart.result c.depart.new.table c.depart.new.out.items c.in-Ok.ensures.flow
+    departs_behind c.args.table.now c.args.policy.now c.treatment-treatment.result c.in-Ok.flow c.args.packet.now c.args.out.now.items c.depart.result c.depart.new.table c.depart.new.out.items (subst (λ (r : Result Flow InnerFault). IfOk r (IsFlowOf c.args.packet.now)) c.in-Ok.is c.inner-read.ensures.flow)
     c.treatment-treatment.ensures.right.decision c.depart.ensures.sent
 
 pub returns-clause-right : goal.returns-clause-right
@@ -31,15 +31,11 @@ returns-clause-right c =
     c.args.table.now c.args.policy.now c.args.packet.now c.args.out.now.items c.depart.result c.depart.new.table c.depart.new.out.items (returns-clause-sent c) c.depart.ensures.memory)
     c.treatment-treatment.ensures.all_right
 
-pub returns-in-Err-clause-sent : goal.returns-in-Err-clause-sent
-returns-in-Err-clause-sent c =
-    lays_nothing (λ (o : Outcome). Sends c.args.table.now c.args.policy.now c.args.packet.now o c.args.table.now) c.args.out.now.items (Inner c.in-Err.fault) c.args.table.now (c.in-Err.ensures.refused, refl)
-
 pub returns-clause-held : goal.returns-clause-held
 returns-clause-held c = λ flow flow_is some.
     subst (λ (f : Flow). HoldsTreatmentOf c.args.policy.now c.args.table.now.pairs c.treatment-treatment.new.self f)
-    (c.flows_are_determined.ensures.flow c.args.packet.now c.in-Ok.flow flow c.in-Ok.ensures.flow flow_is)
+    (c.flows_are_determined.ensures.flow c.args.packet.now c.in-Ok.flow flow (subst (λ (r : Result Flow InnerFault). IfOk r (IsFlowOf c.args.packet.now)) c.in-Ok.is c.inner-read.ensures.flow) flow_is)
     (record { treatment = c.treatment-treatment.result; found = c.treatment-treatment.ensures.right; held = c.treatment-treatment.ensures.held some })
 
 pub returns-clause-unread : goal.returns-clause-unread
-returns-clause-unread c = λ fault refused. absurd (c.flows_are_determined.ensures.apart c.args.packet.now c.in-Ok.flow fault c.in-Ok.ensures.flow refused)
+returns-clause-unread c = λ fault refused. absurd (c.flows_are_determined.ensures.apart c.args.packet.now c.in-Ok.flow fault (subst (λ (r : Result Flow InnerFault). IfOk r (IsFlowOf c.args.packet.now)) c.in-Ok.is c.inner-read.ensures.flow) refused)
