@@ -19,7 +19,7 @@ NAMED = re.compile(r"\bcrates/([a-z_0-9]+)")
 MUTANTS = re.compile(r"^\*\*Mutants\.\*\*.*?(?=^$)", re.M | re.S)
 NAME = re.compile(r"`([a-z_0-9]+)/([a-z_0-9]+)`")
 PIECE = re.compile(r"`([^`\n]*)`")
-PLACE = re.compile(r"crates/[a-z_0-9]+/(?:src|specs|proofs|must-fail)/[\w/.-]+\.(?:rt|antt|edit)")
+PLACE = re.compile(r"crates/[a-z_0-9]+/(?:src|specs|proofs|must-fail|must-fail-more)/[\w/.-]+\.(?:rt|antt|edit)")
 WORD = re.compile(r"[A-Za-z_]\w*(?:::\w+)*")
 
 # What a page says, with its figure as the group, and where the tree has that figure: a file and a form whose group it is.
@@ -103,7 +103,7 @@ def wrong_contracts(page):
 def wrong_mutants(page):
     for paragraph in MUTANTS.findall(page.read_text()):
         for crate, name in NAME.findall(paragraph):
-            if not (ROOT / "crates" / crate / "must-fail" / f"{name}.edit").is_file():
+            if not any((ROOT / "crates" / crate).glob(f"must-fail*/{name}.edit")):
                 yield f"{crate}/{name} is no mutant"
 
 

@@ -1,5 +1,5 @@
 #!/usr/bin/env python3
-"""Prints of each crate the lines of code, tests, definitions and proofs, and its must-fail edits. python3 tools/lines.py"""
+"""Prints of each crate the lines of code, tests, definitions and proofs, and its must-fail edits, those that the gate tries and those that tools/edits.py does. python3 tools/lines.py"""
 import pathlib
 
 crates = pathlib.Path(__file__).resolve().parent.parent / "crates"
@@ -14,9 +14,9 @@ def is_test(path, source):
     return "tests" in parts or parts[-1] == "tests.rt"
 
 
-print("| Crate | Code | Tests | Definitions | Proofs | Must-fail edits |")
-print("|---|---|---|---|---|---|")
-sums = [0] * 5
+print("| Crate | Code | Tests | Definitions | Proofs | Must-fail edits | More |")
+print("|---|---|---|---|---|---|---|")
+sums = [0] * 6
 for crate in sorted(crates.iterdir()):
     source = crate / "src"
     if not source.is_dir():
@@ -28,7 +28,7 @@ for crate in sorted(crates.iterdir()):
         lines(tests),
         lines((crate / "specs").rglob("*.antt")),
         lines((crate / "proofs").rglob("*.antt")),
-        len(list((crate / "must-fail").glob("*.edit"))),
+        *(len(list((crate / folder).glob("*.edit"))) for folder in ("must-fail", "must-fail-more")),
     ]
     sums = [total + one for total, one in zip(sums, row)]
     print(f"| `{crate.name}` | " + " | ".join(f"{one:,}" for one in row) + " |")
