@@ -176,13 +176,13 @@ pub fn lay_behind<'a>(
     no_pair_comes();
     flows_are_determined();
     // By reference: a flow is long, and copied right after it was written it would be waited for.
-    let read = inner(packet);
-    let flow = match &read {
-        Ok(flow) => flow,
-        Err(fault) => return Ok(Laid::Dropped(PacketFault::Inner(*fault))),
-    };
-    let treatment = flows.treatment(table, policy, flow);
-    depart(table, treatment, flow, packet, out)
+    match &inner(packet) {
+        Ok(flow) => {
+            let treatment = flows.treatment(table, policy, flow);
+            depart(table, treatment, flow, packet, out)
+        }
+        Err(fault) => Ok(Laid::Dropped(PacketFault::Inner(*fault))),
+    }
 }
 
 // What was laid in a buffer of its own.

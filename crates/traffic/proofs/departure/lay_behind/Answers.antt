@@ -13,13 +13,13 @@ use Rattle.traffic.proofs.FollowingLemmas.{Keeps}
 use Rattle.traffic.proofs.BehindLemmas.{departs_behind, sent_behind}
 use Rattle.traffic.proofs.departure.lay_behind.Goals as goal
 
-pub returns-clause-sent : goal.returns-clause-sent
-returns-clause-sent c =
-    departs_behind c.args.table.now c.args.policy.now c.treatment-treatment.result c.in-Ok.flow c.args.packet.now c.args.out.now.items c.depart.result c.depart.new.table c.depart.new.out.items (subst (λ (r : Result Flow InnerFault). IfOk r (IsFlowOf c.args.packet.now)) c.in-Ok.is c.inner-read.ensures.flow)
+pub returns-in-Ok-clause-sent : goal.returns-in-Ok-clause-sent
+returns-in-Ok-clause-sent c =
+    departs_behind c.args.table.now c.args.policy.now c.treatment-treatment.result c.in-Ok.flow c.args.packet.now c.args.out.now.items c.depart.result c.depart.new.table c.depart.new.out.items (subst (λ (r : Result Flow InnerFault). IfOk r (IsFlowOf c.args.packet.now)) c.in-Ok.is c.inner.ensures.flow)
     c.treatment-treatment.ensures.right.decision c.depart.ensures.sent
 
-pub returns-clause-right : goal.returns-clause-right
-returns-clause-right c =
+pub returns-in-Ok-clause-right : goal.returns-in-Ok-clause-right
+returns-in-Ok-clause-right c =
     let keeps : Keeps (λ (a b : Database). NoneComes a.pairs b.pairs) = record {
       same = λ d. c.no_pair_comes.ensures.same d.pairs;
       opening = c.no_pair_comes.ensures.opening;
@@ -28,14 +28,14 @@ returns-clause-right c =
     } in
     c.answers_stay_right.ensures.stay c.args.policy.now c.args.table.now.pairs c.depart.new.table.pairs c.treatment-treatment.new.self
     (sent_behind (λ (a b : Database). NoneComes a.pairs b.pairs) keeps (action_of c.treatment-treatment.result ≡ Protect) (HasUnspentCarrier c.args.table.now c.in-Ok.flow) (c.depart.new.out.items ≡ c.args.out.now.items)
-    c.args.table.now c.args.policy.now c.args.packet.now c.args.out.now.items c.depart.result c.depart.new.table c.depart.new.out.items (returns-clause-sent c) c.depart.ensures.memory)
+    c.args.table.now c.args.policy.now c.args.packet.now c.args.out.now.items c.depart.result c.depart.new.table c.depart.new.out.items (returns-in-Ok-clause-sent c) c.depart.ensures.memory)
     c.treatment-treatment.ensures.all_right
 
-pub returns-clause-held : goal.returns-clause-held
-returns-clause-held c = λ flow flow_is some.
+pub returns-in-Ok-clause-held : goal.returns-in-Ok-clause-held
+returns-in-Ok-clause-held c = λ flow flow_is some.
     subst (λ (f : Flow). HoldsTreatmentOf c.args.policy.now c.args.table.now.pairs c.treatment-treatment.new.self f)
-    (c.flows_are_determined.ensures.flow c.args.packet.now c.in-Ok.flow flow (subst (λ (r : Result Flow InnerFault). IfOk r (IsFlowOf c.args.packet.now)) c.in-Ok.is c.inner-read.ensures.flow) flow_is)
+    (c.flows_are_determined.ensures.flow c.args.packet.now c.in-Ok.flow flow (subst (λ (r : Result Flow InnerFault). IfOk r (IsFlowOf c.args.packet.now)) c.in-Ok.is c.inner.ensures.flow) flow_is)
     (record { treatment = c.treatment-treatment.result; found = c.treatment-treatment.ensures.right; held = c.treatment-treatment.ensures.held some })
 
-pub returns-clause-unread : goal.returns-clause-unread
-returns-clause-unread c = λ fault refused. absurd (c.flows_are_determined.ensures.apart c.args.packet.now c.in-Ok.flow fault (subst (λ (r : Result Flow InnerFault). IfOk r (IsFlowOf c.args.packet.now)) c.in-Ok.is c.inner-read.ensures.flow) refused)
+pub returns-in-Ok-clause-unread : goal.returns-in-Ok-clause-unread
+returns-in-Ok-clause-unread c = λ fault refused. absurd (c.flows_are_determined.ensures.apart c.args.packet.now c.in-Ok.flow fault (subst (λ (r : Result Flow InnerFault). IfOk r (IsFlowOf c.args.packet.now)) c.in-Ok.is c.inner.ensures.flow) refused)
