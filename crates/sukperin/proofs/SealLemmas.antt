@@ -3,7 +3,8 @@ use Rattle.std.proofs.Common.{◌≡◌, ◌+◌, ◌-◌, ◌≤◌, ℕ, List,
 use Rattle.std.specs.Prelude.{Result, Ok, Err}
 use Rattle.std.specs.declared.alloc.AllocError.{AllocError}
 use Rattle.std.proofs.lemmas.Bool.{cases_lt}
-use Rattle.std.proofs.lemmas.List.{append-nil, drop-drop, drop_all, drop_at, length-take-le, take-append-drop, take_all, take_at, take_rest}
+use Rattle.std.proofs.Math.Seq.{take-add}
+use Rattle.std.proofs.lemmas.List.{append-nil, drop-append-le, drop-drop, drop_all, drop_at, length-take-le, take-append-drop, take-append-le, take_at, take_rest}
 use borrow.Rule.Slice.PartMut.{put_mid}
 use Rattle.base.specs.Octets.{Octets}
 use Rattle.caller_peer.specs.declared.shared_key.PeerCaller.{PeerCaller}
@@ -27,7 +28,7 @@ use Rattle.traffic.specs.Behind.{IsAppended}
 use Rattle.traffic.specs.declared.departure.Laid.{Laid}
 use Rattle.traffic.specs.declared.departure.Laid.TheVariants as laid
 use Rattle.sukperin.proofs.OutwardLemmas.{sealed_fits}
-use Rattle.sukperin.specs.Lists.{HasRoomBehind, IsPacketAt, IsPlaceRefusal, LaysGroup, LaysNext, RunsOver, Sent, SealsAll, TakesOut, TakesOutAt, TakesOutGroup, TakesOutOver, no_span, packet_at, span_of_laid, told_from, told_of_laid}
+use Rattle.sukperin.specs.Lists.{HasRoomBehind, IsPacketAt, IsPlaceRefusal, LaysGroup, LaysNext, RunsOver, laid_behind, Sent, SealsAll, TakesOut, TakesOutAt, TakesOutGroup, TakesOutOver, no_span, packet_at, span_of_laid, told_from, told_of_laid}
 use Rattle.sukperin.specs.Meaning.{meaning_for}
 use Rattle.sukperin.specs.Outputs.{of_kind, refused_alone}
 use Rattle.sukperin.specs.Outward.{HasRoom, sealed_in}
@@ -99,12 +100,22 @@ told_laid pairs begin n (laid.Dropped fault) octets is = refl
 
 -- ---- one packet more is laid
 
+abbrev the_sent : State PeerCaller → Octets → Sent
+the_sent gateway octets = record { gateway = gateway; octets = octets }
+
+-- A packet is taken, but that its ESP packet has no ICV yet: that stands behind those before it.
+pub record LaysBehind (octets : Octets) (room : ℕ) (place : SukPlace) (used : ℕ) (old : State PeerCaller) (buffer : Octets) (told : SukOutput) (span : Span) (new : State PeerCaller) (after : Octets) : Type 0 where
+  pub takes : (before : Octets) (spans : List Span) → length before ≡ used → octets_of spans ≡ length buffer
+      → TakesOutAt octets room place (the_sent old (before ++ finished_row old.table.pairs spans buffer)) told (the_sent new (before ++ finished_row new.table.pairs (spans ++ span ∷ []) after))
+  pub longer : length after ≡ length buffer + span.length
+  pub fits : used + length after ≤ room
+
 -- a packet is laid as this part of the buffer
 lays_as : (octets : Octets) (room : ℕ) (place : SukPlace) (used begin : ℕ) (packet : Octets) (old new : State PeerCaller) (buffer after appended : Octets) (said : OutputView) (told : SukOutput) (span : Span)
     → begin ≡ used + length buffer → begin ≤ room → IsPacketAt octets place packet → HasRoom packet (room - begin)
     → Traces (meaning_for old.caller) (Outward packet) old said no_trace new → KeepsSenders old.table.pairs new.table.pairs
     → after ≡ buffer ++ appended → span.length ≡ length appended → finished_at new.table.pairs span.child span.number appended ≡ sealed_in said → told ≡ told_from begin said no_trace
-    → LaysNext octets room place used old buffer told span new after
+    → LaysBehind octets room place used old buffer told span new after
 lays_as octets room place used begin packet old new buffer after appended said told span begin_is within at enough traces keeps after_is size sealed told_is =
     let short : length (sealed_in said) ≤ length packet + 29 = sealed_fits (meaning_for old.caller) packet said no_trace old new traces in
     let same_long = sym (finished_size_by (sender_at new.table.pairs span.child) span.number appended) ∙ ap length sealed in
@@ -138,7 +149,7 @@ pub lays_taken : (octets : Octets) (room : ℕ) (place : SukPlace) (used begin :
     → begin ≡ used + length buffer → begin ≤ room → IsPacketAt octets place packet → HasRoom packet (room - begin)
     → AppendsTo (λ said. Traces (meaning_for old.caller) (Outward packet) old said no_trace new) buffer result new.table.pairs after → KeepsSenders old.table.pairs new.table.pairs
     → result ≡ Ok what → n ≡ length after - length buffer → told ≡ told_of_laid begin n what → span ≡ span_of_laid n what
-    → LaysNext octets room place used old buffer told span new after
+    → LaysBehind octets room place used old buffer told span new after
 lays_taken octets room place used begin packet old new buffer after result what n told span begin_is within at enough lays keeps is n_is told_is span_is =
     let pairs : PairMap = new.table.pairs in
     let a : Octets = lays.appended in
@@ -147,7 +158,7 @@ lays_taken octets room place used begin packet old new buffer after result what 
     let only : IsAppended what a = subst (λ (r : Result Laid AllocError). IsAppendedIf r a) is lays.is_appended in
     let traces = subst (λ (r : Result Laid AllocError). Traces (meaning_for old.caller) (Outward packet) old (said_of_laid pairs r a) no_trace new) is lays.said in
     let own : Span = span_of_laid n what in
-    subst (λ (s : Span). LaysNext octets room place used old buffer told s new after) (sym span_is)
+    subst (λ (s : Span). LaysBehind octets room place used old buffer told s new after) (sym span_is)
     (lays_as octets room place used begin packet old new buffer after a (said_of_laid pairs (Ok what) a) told own begin_is within at enough traces keeps lays.after_is
     (span_size n what a size only) (span_sealed pairs n what a only) (told_is ∙ told_laid pairs begin n what a size))
 
@@ -156,19 +167,15 @@ pub lays_lacking : (octets : Octets) (room : ℕ) (place : SukPlace) (used begin
     → begin ≡ used + length buffer → begin ≤ room → IsPacketAt octets place packet → HasRoom packet (room - begin)
     → AppendsTo (λ said. Traces (meaning_for old.caller) (Outward packet) old said no_trace new) buffer result new.table.pairs after → KeepsSenders old.table.pairs new.table.pairs
     → result ≡ Err e → told ≡ refused_alone Memory → span ≡ no_span
-    → LaysNext octets room place used old buffer told span new after
+    → LaysBehind octets room place used old buffer told span new after
 lays_lacking octets room place used begin packet old new buffer after result e told span begin_is within at enough lays keeps is told_is span_is =
     let pairs : PairMap = new.table.pairs in
     let a : Octets = lays.appended in
     let only : a ≡ [] = subst (λ (r : Result Laid AllocError). IsAppendedIf r a) is lays.is_appended in
     let traces = subst (λ (r : Result Laid AllocError). Traces (meaning_for old.caller) (Outward packet) old (said_of_laid pairs r a) no_trace new) is lays.said in
-    subst (λ (s : Span). LaysNext octets room place used old buffer told s new after) (sym span_is)
+    subst (λ (s : Span). LaysBehind octets room place used old buffer told s new after) (sym span_is)
     (lays_as octets room place used begin packet old new buffer after a (said_of_laid pairs (Err e) a) told no_span begin_is within at enough traces keeps lays.after_is
     (sym (ap length only)) (finished_none pairs a only) told_is)
-
--- a packet that is refused leaves what was sent
-abbrev the_sent : State PeerCaller → Octets → Sent
-the_sent gateway octets = record { gateway = gateway; octets = octets }
 
 refused_at : (octets : Octets) (room : ℕ) (place : SukPlace) (begin : ℕ) (gateway : State PeerCaller) (sent after : Octets) (told : SukOutput) (why : Refusal) → length sent ≡ begin
     → IsPlaceRefusal octets place (room - begin) why → told ≡ refused_alone why → the_sent gateway after ≡ the_sent gateway sent → TakesOutAt octets room place (the_sent gateway sent) told (the_sent gateway after)
@@ -180,7 +187,7 @@ refused_at octets room place begin gateway sent after told why begins (inr short
 
 -- one is refused, so nothing is laid
 pub lays_refused : (octets : Octets) (room : ℕ) (place : SukPlace) (used begin : ℕ) (old : State PeerCaller) (buffer : Octets) (told : SukOutput) (span : Span) (why : Refusal)
-    → begin ≡ used + length buffer → begin ≤ room → IsPlaceRefusal octets place (room - begin) why → told ≡ refused_alone why → span ≡ no_span → LaysNext octets room place used old buffer told span old buffer
+    → begin ≡ used + length buffer → begin ≤ room → IsPlaceRefusal octets place (room - begin) why → told ≡ refused_alone why → span ≡ no_span → LaysBehind octets room place used old buffer told span old buffer
 lays_refused octets room place used begin old buffer told span why begin_is within refused told_is span_is =
     let same : (spans : List Span) → octets_of spans ≡ length buffer → finished_row old.table.pairs (spans ++ no_span ∷ []) buffer ≡ finished_row old.table.pairs spans buffer = λ spans full.
     ap (finished_row old.table.pairs (spans ++ no_span ∷ [])) (sym (append-nil buffer))
@@ -188,7 +195,7 @@ lays_refused octets room place used begin old buffer told span why begin_is with
     ∙ ap (λ (xs : Octets). finished_row old.table.pairs spans buffer ++ xs) (finished_none old.table.pairs [] refl)
     ∙ append-nil (finished_row old.table.pairs spans buffer)
     in
-    subst (λ (s : Span). LaysNext octets room place used old buffer told s old buffer) (sym span_is) (record {
+    subst (λ (s : Span). LaysBehind octets room place used old buffer told s old buffer) (sym span_is) (record {
       takes = λ before spans here full.
           let row : Octets = finished_row old.table.pairs spans buffer in
           let long : length row ≡ length buffer = row_size old.table.pairs spans buffer in
@@ -199,42 +206,196 @@ lays_refused octets room place used begin old buffer told span why begin_is with
       fits = omega arith;
     })
 
--- ---- what is written
+-- an ESP packet that is laid is at most 29 octets longer than its packet
+pub laid_fits : (old new : State PeerCaller) (packet before after : Octets) (result : Result Laid AllocError) (what : Laid) → before ≡ []
+    → AppendsTo (λ said. Traces (meaning_for old.caller) (Outward packet) old said no_trace new) before result new.table.pairs after → result ≡ Ok what → length after ≤ length packet + 29
+laid_fits old new packet before after result what none lays is =
+    let pairs : PairMap = new.table.pairs in
+    let a : Octets = lays.appended in
+    let only : IsAppended what a = subst (λ (r : Result Laid AllocError). IsAppendedIf r a) is lays.is_appended in
+    let traces = subst (λ (r : Result Laid AllocError). Traces (meaning_for old.caller) (Outward packet) old (said_of_laid pairs r a) no_trace new) is lays.said in
+    let short = sealed_fits (meaning_for old.caller) packet (said_of_laid pairs (Ok what) a) no_trace old new traces in
+    let span : Span = span_of_laid 0 what in
+    let same = sym (finished_size_by (sender_at pairs span.child) span.number a) ∙ ap length (span_sealed pairs 0 what a only) in
+    let whole = ap length (lays.after_is ∙ ap (λ (xs : Octets). xs ++ a) none) in
+    omega arith
 
--- a group's packets are in the room
-pub group_written : (octets : Octets) (places : List SukPlace) (room filled : Octets) (used end : ℕ) (old new : State PeerCaller) (told : List SukOutput) (spans : List Span) (buffer done : Octets)
-    → used ≤ length room → LaysGroup octets places room used old new told spans buffer → done ≡ finished_row new.table.pairs spans buffer → end ≡ used + length done
-    → filled ≡ take used room ++ (done ++ drop (used + length done) room)
-    → TakesOutGroup octets places used old room end new told filled
-group_written octets places room filled used end old new told spans buffer done within lays done_is end_is filled_is =
-    let size : length done ≡ length buffer = ap length done_is ∙ row_size new.table.pairs spans buffer in
-    let enough = lays.fits in
-    let front : Octets = take used room ++ done in
-    let first : length (take used room) ≡ used = length-take-le used room within in
-    let long : length front ≡ end = length-append (take used room) done ∙ omega arith in
-    let split : filled ≡ front ++ drop end room =
+-- the same, appended to what stands before it
+appends_behind : (says : OutputView → Type 0) (row before : Octets) (result : Result Laid AllocError) (pairs : PairMap) (after : Octets) → before ≡ [] → AppendsTo says before result pairs after
+    → AppendsTo says row result pairs (row ++ after)
+appends_behind says row before result pairs after none lays = record {
+  appended = lays.appended;
+  after_is = ap (λ (xs : Octets). row ++ xs) (lays.after_is ∙ ap (λ (xs : Octets). xs ++ lays.appended) none);
+  is_appended = lays.is_appended;
+  said = lays.said;
+}
+
+-- what stands in the room up to where a packet begins
+pub row_long : (used begin : ℕ) (room : Octets) → used ≤ begin → begin ≤ length room → length (laid_behind used begin room) ≡ begin - used
+row_long used begin room after within = length-take-le (begin - used) (drop used room) (omega (arith, length-drop used room))
+
+pub row_front : (used begin : ℕ) (room : Octets) → used ≤ begin → take begin room ≡ take used room ++ laid_behind used begin room
+row_front used begin room after =
+    let n : ℕ = begin - used in
+    let sum : begin ≡ used + n = omega arith in
+    ap (λ (k : ℕ). take k room) sum ∙ take-add used n room
+
+-- A packet is written behind it.
+pub row_grows : (used begin : ℕ) (room filled packet : Octets) → used ≤ begin → begin + length packet ≤ length room → filled ≡ take begin room ++ (packet ++ drop (begin + length packet) room)
+    → (take used filled ≡ take used room) × (laid_behind used (begin + length packet) filled ≡ laid_behind used begin room ++ packet)
+row_grows used begin room filled packet after fits filled_is =
+    let front : Octets = take used room in
+    let row : Octets = laid_behind used begin room in
+    let rest : Octets = drop (begin + length packet) room in
+    let one : length front ≡ used = length-take-le used room (omega arith) in
+    let two : length row ≡ begin - used = row_long used begin room after (omega arith) in
+    let both : length (row ++ packet) ≡ begin + length packet - used = length-append row packet ∙ omega arith in
+    let split : filled ≡ front ++ ((row ++ packet) ++ rest) =
     filled_is
-    ∙ ap (λ (k : ℕ). take used room ++ (done ++ drop k room)) (sym end_is)
-    ∙ sym (append_assoc (take used room) done (drop end room))
-    in
+    ∙ ap (λ (xs : Octets). xs ++ (packet ++ rest)) (row_front used begin room after)
+    ∙ append_assoc front row (packet ++ rest)
+    ∙ ap (λ (xs : Octets). front ++ xs) (sym (append_assoc row packet rest))
+    in (
+      ap (take used) split ∙ take_at front ((row ++ packet) ++ rest) used one,
+      ap (λ (xs : Octets). take (begin + length packet - used) (drop used xs)) split
+          ∙ ap (take (begin + length packet - used)) (drop_at front ((row ++ packet) ++ rest) used one)
+          ∙ take_at (row ++ packet) rest (begin + length packet - used) both,
+    )
+
+-- what stands behind it stays
+pub rest_stays : (begin : ℕ) (room filled packet : Octets) → begin + length packet ≤ length room → filled ≡ take begin room ++ (packet ++ drop (begin + length packet) room)
+    → drop (begin + length packet) filled ≡ drop (begin + length packet) room
+rest_stays begin room filled packet fits filled_is =
+    let front : Octets = take begin room in
+    let rest : Octets = drop (begin + length packet) room in
+    let one : length front ≡ begin = length-take-le begin room (omega arith) in
+    let long : length (front ++ packet) ≡ begin + length packet = length-append front packet ∙ omega arith in
+    ap (drop (begin + length packet)) (filled_is ∙ sym (append_assoc front packet rest)) ∙ drop_at (front ++ packet) rest (begin + length packet) long
+
+-- So a packet is laid in the room.
+pub lays_in : (octets : Octets) (place : SukPlace) (used begin : ℕ) (old new : State PeerCaller) (room filled after : Octets) (told : SukOutput) (span : Span)
+    → used ≤ begin → begin ≤ length room → LaysBehind octets (length room) place used old (laid_behind used begin room) told span new after
+    → take used filled ≡ take used room → laid_behind used (begin + span.length) filled ≡ after → drop (begin + span.length) filled ≡ drop (begin + span.length) room
+    → LaysNext octets place used begin old room told span new filled
+lays_in octets place used begin old new room filled after told span behind_used within lays front row_is rest =
+    let row : Octets = laid_behind used begin room in
+    let long : length row ≡ begin - used = row_long used begin room behind_used within in
+    let longer = lays.longer in
+    let enough = lays.fits in
     record {
-      runs = subst (λ (xs : Octets). Runs (TakesOutAt octets (length room)) places told (record { gateway = old; octets = take used room }) (record { gateway = new; octets = xs }))
-          (ap (λ (xs : Octets). take used room ++ xs) (sym done_is) ∙ sym (ap (take end) split ∙ take_at front (drop end room) end long)) lays.runs;
-      begins = omega arith;
+      takes = λ spans full.
+          subst (λ (xs : Octets). TakesOutAt octets (length room) place (the_sent old (take used room ++ finished_row old.table.pairs spans row)) told
+          (the_sent new (xs ++ finished_row new.table.pairs (spans ++ span ∷ []) (laid_behind used (begin + span.length) filled)))) (sym front)
+          (subst (λ (xs : Octets). TakesOutAt octets (length room) place (the_sent old (take used room ++ finished_row old.table.pairs spans row)) told
+          (the_sent new (take used room ++ finished_row new.table.pairs (spans ++ span ∷ []) xs))) (sym row_is)
+          (lays.takes (take used room) spans (length-take-le used room (omega arith)) (full ∙ sym long)));
       fits = omega arith;
-      behind = ap (drop end) split ∙ drop_at front (drop end room) end long;
+      behind = rest;
     }
 
--- packets that were lent and finished
-pub row_lent : (pairs : PairMap) (spans : List Span) (len : ℕ) (items xs ys : Octets) → xs ≡ items → len ≡ length items → ys ≡ finished_row pairs spans xs
-    → take len (ys ++ drop (length ys) items) ≡ finished_row pairs spans items
-row_lent pairs spans len items xs ys same long is =
-    let done : ys ≡ finished_row pairs spans items = is ∙ ap (finished_row pairs spans) same in
-    let size : length ys ≡ length items = ap length done ∙ row_size pairs spans items in
-    ap (λ (zs : Octets). take len (ys ++ zs)) (drop_all (length ys) items (omega arith))
-    ∙ ap (take len) (append-nil ys)
-    ∙ take_all len ys (omega arith)
-    ∙ done
+-- Nothing is laid, so the room is as it was.
+pub lays_none : (octets : Octets) (place : SukPlace) (used begin : ℕ) (old new : State PeerCaller) (room after : Octets) (told : SukOutput) (span : Span)
+    → used ≤ begin → begin ≤ length room → span ≡ no_span → LaysBehind octets (length room) place used old (laid_behind used begin room) told no_span new after → after ≡ laid_behind used begin room
+    → LaysNext octets place used begin old room told span new room
+lays_none octets place used begin old new room after told span behind_used within span_is lays same =
+    subst (λ (s : Span). LaysNext octets place used begin old room told s new room) (sym span_is)
+    (lays_in octets place used begin old new room room after told no_span behind_used within lays refl (ap (λ (k : ℕ). laid_behind used k room) (omega arith) ∙ sym same) refl)
+
+-- ---- what is written
+
+-- a packet is laid in the room, but for its ICV
+pub lays_taken_in : (octets : Octets) (place : SukPlace) (used begin : ℕ) (packet : Octets) (old new : State PeerCaller) (room filled before after : Octets) (result : Result Laid AllocError) (what : Laid) (n : ℕ) (told : SukOutput) (span : Span)
+    → used ≤ begin → begin ≤ length room → IsPacketAt octets place packet → HasRoom packet (length room - begin) → before ≡ []
+    → AppendsTo (λ said. Traces (meaning_for old.caller) (Outward packet) old said no_trace new) before result new.table.pairs after → KeepsSenders old.table.pairs new.table.pairs
+    → result ≡ Ok what → n ≡ length after → told ≡ told_of_laid begin n what → span ≡ span_of_laid n what → filled ≡ take begin room ++ (after ++ drop (begin + length after) room)
+    → LaysNext octets place used begin old room told span new filled
+lays_taken_in octets place used begin packet old new room filled before after result what n told span behind_used within at enough none lays keeps is n_is told_is span_is filled_is =
+    let row : Octets = laid_behind used begin room in
+    let long : length row ≡ begin - used = row_long used begin room behind_used within in
+    let both : length (row ++ after) ≡ length row + length after = length-append row after in
+    let all = appends_behind (λ said. Traces (meaning_for old.caller) (Outward packet) old said no_trace new) row before result new.table.pairs after none lays in
+    let laid = lays_taken octets (length room) place used begin packet old new row (row ++ after) result what n told span (omega arith) within at enough all keeps is (omega arith) told_is span_is in
+    let longer = laid.longer in
+    let fits = laid.fits in
+    let size : span.length ≡ length after = omega arith in
+    let within_it : begin + length after ≤ length room = omega arith in
+    let ends : begin + span.length ≡ begin + length after = ap (λ (k : ℕ). begin + k) size in
+    let grows = row_grows used begin room filled after behind_used within_it filled_is in
+    lays_in octets place used begin old new room filled (row ++ after) told span behind_used within laid grows.0
+    (ap (λ (k : ℕ). laid_behind used k filled) ends ∙ grows.1)
+    (ap (λ (k : ℕ). drop k filled) ends ∙ rest_stays begin room filled after within_it filled_is ∙ ap (λ (k : ℕ). drop k room) (sym ends))
+
+-- there is no memory for it
+pub lays_lacking_in : (octets : Octets) (place : SukPlace) (used begin : ℕ) (packet : Octets) (old new : State PeerCaller) (room before after : Octets) (result : Result Laid AllocError) (e : AllocError) (told : SukOutput) (span : Span)
+    → used ≤ begin → begin ≤ length room → IsPacketAt octets place packet → HasRoom packet (length room - begin) → before ≡ []
+    → AppendsTo (λ said. Traces (meaning_for old.caller) (Outward packet) old said no_trace new) before result new.table.pairs after → KeepsSenders old.table.pairs new.table.pairs
+    → result ≡ Err e → told ≡ refused_alone Memory → span ≡ no_span
+    → LaysNext octets place used begin old room told span new room
+lays_lacking_in octets place used begin packet old new room before after result e told span behind_used within at enough none lays keeps is told_is span_is =
+    let row : Octets = laid_behind used begin room in
+    let long : length row ≡ begin - used = row_long used begin room behind_used within in
+    let all = appends_behind (λ said. Traces (meaning_for old.caller) (Outward packet) old said no_trace new) row before result new.table.pairs after none lays in
+    let laid = lays_lacking octets (length room) place used begin packet old new row (row ++ after) result e told no_span (omega arith) within at enough all keeps is told_is refl in
+    let only : lays.appended ≡ [] = subst (λ (r : Result Laid AllocError). IsAppendedIf r lays.appended) is lays.is_appended in
+    let empty : after ≡ [] = lays.after_is ∙ ap (λ (xs : Octets). xs ++ lays.appended) none ∙ only in
+    lays_none octets place used begin old new room (row ++ after) told span behind_used within span_is laid (ap (λ (xs : Octets). row ++ xs) empty ∙ append-nil row)
+
+-- it is refused
+pub lays_refused_in : (octets : Octets) (place : SukPlace) (used begin : ℕ) (old : State PeerCaller) (room : Octets) (told : SukOutput) (span : Span) (why : Refusal)
+    → used ≤ begin → begin ≤ length room → IsPlaceRefusal octets place (length room - begin) why → told ≡ refused_alone why → span ≡ no_span → LaysNext octets place used begin old room told span old room
+lays_refused_in octets place used begin old room told span why behind_used within refused told_is span_is =
+    let row : Octets = laid_behind used begin room in
+    let long : length row ≡ begin - used = row_long used begin room behind_used within in
+    lays_none octets place used begin old old room row told span behind_used within span_is (lays_refused octets (length room) place used begin old row told no_span why (omega arith) within refused told_is refl) refl
+
+-- a part from a place to the end is written anew
+pub end_written : (room done : Octets) (used : ℕ) → put_mid used (length room - used) room done ≡ take used room ++ done
+end_written room done used =
+    ap (λ (xs : Octets). take used room ++ (done ++ xs)) (drop_all (length room - used) (drop used room) (omega (arith, length-drop used room)))
+    ∙ ap (λ (xs : Octets). take used room ++ xs) (append-nil done)
+
+-- packets in a row get their ICVs, and what stands behind them stays
+row_apart : (pairs : PairMap) (spans : List Span) (row rest : Octets) → octets_of spans ≡ length row → finished_row pairs spans (row ++ rest) ≡ finished_row pairs spans row ++ rest
+row_apart pairs [] row rest full = refl
+row_apart pairs (s ∷ ss) row rest full =
+    let first : Octets = finished_at pairs s.child s.number (take s.length row) in
+    let left : Octets = drop s.length row in
+    let size : length left ≡ length row - s.length = length-drop s.length row in
+    ap (λ (ys : Octets). finished_at pairs s.child s.number ys ++ finished_row pairs ss (drop s.length (row ++ rest))) (take-append-le s.length row rest (omega arith))
+    ∙ ap (λ (ys : Octets). first ++ finished_row pairs ss ys) (drop-append-le s.length row rest (omega arith))
+    ∙ ap (λ (ys : Octets). first ++ ys) (row_apart pairs ss left rest (omega arith))
+    ∙ sym (append_assoc first (finished_row pairs ss left) rest)
+
+-- a group's packets are in the room
+pub group_written : (octets : Octets) (places : List SukPlace) (room mid filled done : Octets) (used end : ℕ) (old new : State PeerCaller) (told : List SukOutput) (spans : List Span)
+    → length mid ≡ length room → LaysGroup octets places used old room end new told spans mid → done ≡ finished_row new.table.pairs spans (drop used mid)
+    → filled ≡ take used mid ++ done
+    → TakesOutGroup octets places used old room end new told filled
+group_written octets places room mid filled done used end old new told spans same_long lays done_is filled_is =
+    let pairs : PairMap = new.table.pairs in
+    let begins = lays.begins in
+    let enough = lays.fits in
+    let row : Octets = laid_behind used end mid in
+    let rest : Octets = drop end mid in
+    let long : length row ≡ end - used = row_long used end mid begins (omega arith) in
+    let sum : end ≡ used + (end - used) = omega arith in
+    let parts : drop used mid ≡ row ++ rest =
+    sym (take-append-drop (end - used) (drop used mid))
+    ∙ ap (λ (xs : Octets). row ++ xs) (drop-drop (end - used) used mid ∙ ap (λ (k : ℕ). drop k mid) (sym sum))
+    in
+    let sealed : Octets = finished_row pairs spans row in
+    let apart : done ≡ sealed ++ rest = done_is ∙ ap (finished_row pairs spans) parts ∙ row_apart pairs spans row rest (lays.whole ∙ sym long) in
+    let front : Octets = take used mid ++ sealed in
+    let one : length (take used mid) ≡ used = length-take-le used mid (omega arith) in
+    let size : length sealed ≡ length row = row_size pairs spans row in
+    let whole : length front ≡ end = length-append (take used mid) sealed ∙ omega arith in
+    let split : filled ≡ front ++ rest = filled_is ∙ ap (λ (xs : Octets). take used mid ++ xs) apart ∙ sym (append_assoc (take used mid) sealed rest) in
+    record {
+      runs = subst (λ (xs : Octets). Runs (TakesOutAt octets (length room)) places told (the_sent old (take used room)) (the_sent new xs)) (sym (ap (take end) split ∙ take_at front rest end whole)) lays.runs;
+      begins = begins;
+      fits = enough;
+      behind = ap (drop end) split ∙ drop_at front rest end whole ∙ lays.behind;
+    }
 
 -- ---- groups
 
@@ -302,7 +463,9 @@ seals_of octets places state after end new code before told room filled was is d
 -- ---- what the loops keep
 
 -- nothing is laid yet
-pub begun : (octets : Octets) (places : List SukPlace) (outs : List SukOutput) (gateway : State PeerCaller) (room : Octets) (used : ℕ) (spans : List Span) (buffer : Octets) → buffer ≡ []
-    → Runs (TakesOutAt octets (length room)) (take 0 places) (take 0 outs) (record { gateway = gateway; octets = take used room }) (record { gateway = gateway; octets = take used room ++ finished_row gateway.table.pairs (take 0 spans) buffer })
-begun octets places outs gateway room used spans buffer none =
+pub begun : (octets : Octets) (places : List SukPlace) (outs : List SukOutput) (gateway : State PeerCaller) (room : Octets) (used : ℕ) (spans : List Span)
+    → Runs (TakesOutAt octets (length room)) (take 0 places) (take 0 outs) (the_sent gateway (take used room)) (the_sent gateway (take used room ++ finished_row gateway.table.pairs (take 0 spans) (laid_behind used used room)))
+begun octets places outs gateway room used spans =
+    let zero : used - used ≡ 0 = omega arith in
+    let none : laid_behind used used room ≡ [] = ap (λ (k : ℕ). take k (drop used room)) zero in
     ap (the_sent gateway) (ap (λ (xs : Octets). take used room ++ xs) none ∙ append-nil (take used room))

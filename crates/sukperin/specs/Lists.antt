@@ -1,5 +1,5 @@
 -- What calls with lists of packets do: one step after the other, in the order of the places.
-use Rattle.std.specs.Prelude.{◌≡◌, ◌⊎◌, ◌+◌, ◌<◌, ◌≤◌, ◌++◌, ◌∷◌, ℕ, List, Option, Some, None, [], get_or, length, map, take, drop, slice_index_or}
+use Rattle.std.specs.Prelude.{◌≡◌, ◌⊎◌, ◌+◌, ◌-◌, ◌<◌, ◌≤◌, ◌++◌, ◌∷◌, ℕ, List, Option, Some, None, [], get_or, length, map, take, drop, slice_index_or}
 use Rattle.base.specs.Octets.{Octets}
 use Rattle.esp.specs.Precomputed.{IsPrecomputed}
 use Rattle.esp.specs.declared.precomputed.Precomputed.{Precomputed}
@@ -183,19 +183,25 @@ IsPlaceRefusal octets place room why =
     ((¬ LiesIn octets place) × (why ≡ Place))
     ⊎ (LiesIn octets place × (¬ HasRoom (packet_at octets place) room) × (why ≡ ShortRoom))
 
--- The packet at a place is taken, but that its ESP packet has no ICV yet. It stands in the buffer behind
--- those before it, and the buffer is to stand in the room behind what is used of it.
-pub record LaysNext (octets : Octets) (room : ℕ) (place : SukPlace) (used : ℕ) (old : State PeerCaller) (buffer : Octets) (told : SukOutput) (span : Span) (new : State PeerCaller) (after : Octets) : Type 0 where
-  pub takes : (before : Octets) (spans : List Span) → length before ≡ used → octets_of spans ≡ length buffer
-      → TakesOutAt octets room place (record { gateway = old; octets = before ++ finished_row old.table.pairs spans buffer }) told (record { gateway = new; octets = before ++ finished_row new.table.pairs (spans ++ span ∷ []) after })
-  pub longer : length after ≡ length buffer + span.length
-  pub fits : used + length after ≤ room
+-- what stands in the room behind what is used of it, up to an end
+abbrev pub laid_behind : ℕ → ℕ → Octets → Octets
+laid_behind used end room = take (end - used) (drop used room)
 
--- the same of the packets at several places, in a buffer that was empty
-pub record LaysGroup (octets : Octets) (places : List SukPlace) (room : Octets) (used : ℕ) (old new : State PeerCaller) (told : List SukOutput) (spans : List Span) (buffer : Octets) : Type 0 where
-  pub runs : Runs (TakesOutAt octets (length room)) places told (record { gateway = old; octets = take used room }) (record { gateway = new; octets = take used room ++ finished_row new.table.pairs spans buffer })
-  pub whole : octets_of spans ≡ length buffer
-  pub fits : used + length buffer ≤ length room
+-- The packet at a place is taken, but that its ESP packet has no ICV yet. It stands in the room behind those
+-- that were laid behind what is used of it; behind it stands what stood there.
+pub record LaysNext (octets : Octets) (place : SukPlace) (used begin : ℕ) (old : State PeerCaller) (room : Octets) (told : SukOutput) (span : Span) (new : State PeerCaller) (filled : Octets) : Type 0 where
+  pub takes : (spans : List Span) → octets_of spans ≡ begin - used
+      → TakesOutAt octets (length room) place (record { gateway = old; octets = take used room ++ finished_row old.table.pairs spans (laid_behind used begin room) }) told (record { gateway = new; octets = take used filled ++ finished_row new.table.pairs (spans ++ span ∷ []) (laid_behind used (begin + span.length) filled) })
+  pub fits : begin + span.length ≤ length room
+  pub behind : drop (begin + span.length) filled ≡ drop (begin + span.length) room
+
+-- the same of the packets at several places
+pub record LaysGroup (octets : Octets) (places : List SukPlace) (used : ℕ) (old : State PeerCaller) (room : Octets) (end : ℕ) (new : State PeerCaller) (told : List SukOutput) (spans : List Span) (filled : Octets) : Type 0 where
+  pub runs : Runs (TakesOutAt octets (length room)) places told (record { gateway = old; octets = take used room }) (record { gateway = new; octets = take used filled ++ finished_row new.table.pairs spans (laid_behind used end filled) })
+  pub begins : used ≤ end
+  pub whole : octets_of spans ≡ end - used
+  pub fits : end ≤ length room
+  pub behind : drop end filled ≡ drop end room
 
 -- Packets are taken, and their ESP packets stand in the room behind what was used of it; behind them stands
 -- what stood there.

@@ -40,7 +40,7 @@ pub struct Hosted {
     pub left: Left,
     /// Whether it tells the keys of its IKE SAs.
     pub tells_keys: bool,
-    /// What a list of packets on their way out is laid in. It holds nothing between calls but its memory.
+    /// What each packet of a list on its way out is laid in. It holds nothing between calls but its memory.
     pub buffer: Items<u8>,
 }
 

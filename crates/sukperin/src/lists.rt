@@ -1,5 +1,5 @@
 //! Lists of packets, of which up to 64 at a time have their ICVs computed side by side.
-ghost use Rattle.std.specs.Prelude.{◌≡◌, ◌+◌, ◌≤◌, IfErr, IfOk, IfSome, MatchOption, [], length, take};
+ghost use Rattle.std.specs.Prelude.{◌≡◌, ◌+◌, ◌≤◌, ℕ, IfErr, IfOk, IfSome, MatchOption, [], length, take};
 ghost use Rattle.esp.specs.Precomputed.{IsPrecomputed};
 ghost use Rattle.gateway.specs.Inputs.{Esp, input_view};
 ghost use Rattle.gateway.specs.Runs.{Runs};
@@ -76,9 +76,8 @@ pub extern "C" fn suk_esp_all(
 ///
 /// In the record of one packet, which is refused alone: 109 where its place doesn't lie in the buffer, 103
 /// where the room that is left is shorter than the packet and 29 octets, 20 where there is no memory for it.
-/// The handle keeps what it lays packets in, so memory is taken only where a group of up to 64 packets is
-/// longer than each before it. 103, with nothing done, where there are fewer records than places; 101 before
-/// that.
+/// The handle keeps what it lays a packet in, so memory is taken only where a packet is longer than each
+/// before it. 103, with nothing done, where there are fewer records than places; 101 before that.
 #[unsafe(no_mangle)]
 pub extern "C" fn suk_outward_all(
     alloc: Global,
@@ -385,65 +384,67 @@ fn seal_with<const N: usize>(
     ensures { TakesOutGroup octets.now places.now used gateway.old room.old result gateway.new outs.new
         room.new }
 {
-    buffer.clear();
     let mut spans = [nothing(); N];
-    lay_group(
+    let end = lay_group(
         gateway, octets, places, room, used, outs, &mut spans, buffer,
     );
-    gateway.finish_behind(&spans[..places.len()], buffer);
-    write_front(&mut room[used..], buffer.as_slice());
-    used + buffer.len()
+    gateway.finish_behind(&spans[..places.len()], &mut room[used..]);
+    end
 }
 
-// Takes the packets in order, but for the ICVs of their ESP packets. These stand in the buffer one behind the
-// other, and are to stand so behind what is used of the room.
+// Takes the packets in order, but for the ICVs of their ESP packets. These stand in the room behind what is
+// used of it, one behind the other; answers where the last one ends.
 fn lay_group(
     gateway: &mut Gateway<PeerCaller>,
     octets: &[u8],
     places: &[SukPlace],
-    room: &[u8],
+    room: &mut [u8],
     used: usize,
     outs: &mut [SukOutput],
     spans: &mut [Span],
     buffer: &mut Vec<u8>,
-)
+) -> usize
     requires few { length places.now ≤ length spans.old }
     requires records { length outs.old ≡ length places.now }
-    requires within { used ≤ length room.now }
-    requires empty { buffer.old.items ≡ [] }
-    ensures { LaysGroup octets.now places.now room.now used gateway.old gateway.new outs.new
-        (take (length places.now) spans.new) buffer.new.items }
+    requires within { used ≤ length room.old }
+    ensures { LaysGroup octets.now places.now used gateway.old room.old result gateway.new outs.new
+        (take (length places.now) spans.new) room.new }
 {
+    let mut end = used;
     for (turn, place) in places.iter().enumerate() {
-        let next = lay_next(gateway, octets, place, room.len(), used, buffer);
+        let next = lay_next(gateway, octets, place, room, end, buffer);
         outs[turn] = next.0;
         spans[turn] = next.1;
+        end += next.1.length;
     }
+    end
 }
 
-// Takes the packet at a place, if there is room for it behind those in the buffer, but for the ICV of its ESP
-// packet. Tells what came of it, and which part of the buffer is its ESP packet.
+// Takes the packet at a place, if there is room for it behind the beginning of what is free, but for the ICV
+// of its ESP packet, which is written there. Tells what came of it, and what its ESP packet is.
+//
+// The packet is laid in a buffer of its own and copied at once, while the processor has it near.
 fn lay_next(
     gateway: &mut Gateway<PeerCaller>,
     octets: &[u8],
     place: &SukPlace,
-    room: usize,
-    used: usize,
+    room: &mut [u8],
+    begin: usize,
     buffer: &mut Vec<u8>,
 ) -> (SukOutput, Span)
-    requires within { used + length buffer.old.items ≤ room }
-    ensures { LaysNext octets.now room place.now used gateway.old buffer.old.items result.0 result.1
-        gateway.new buffer.new.items }
+    requires within { begin ≤ length room.old }
+    ensures { (used : ℕ) → used ≤ begin → LaysNext octets.now place.now used begin gateway.old room.old
+        result.0 result.1 gateway.new room.new }
 {
-    let start = buffer.len();
-    let begin = used + start;
-    let packet = match packet_for(place, octets, room - begin) {
+    let packet = match packet_for(place, octets, room.len() - begin) {
         Ok(packet) => packet,
         Err(refusal) => return (SukOutput::refused(refusal), nothing()),
     };
+    buffer.clear();
     match gateway.lay_behind(packet, buffer) {
         Ok(laid) => {
-            let length = buffer.len() - start;
+            let length = buffer.len();
+            write_front(&mut room[begin..], buffer.as_slice());
             (told_at(&laid, begin, length), span_of(&laid, length))
         }
         Err(_) => (SukOutput::refused(Refusal::Memory), nothing()),
