@@ -170,7 +170,7 @@ one_held p (suc place) s there held = absurd cc
 all_common : HasAllCommonPoints any_selector any_traffic any_traffic
 all_common p = (λ held. (held, one_held p held.place held.selector held.there held.held), λ both. both.0)
 
-narrowing : IsNarrowing all_protected any_traffic any_traffic any_traffic any_traffic
+pub narrowing : IsNarrowing all_protected any_traffic any_traffic any_traffic any_traffic
 narrowing = record {
   place = 0;
   entry = _;

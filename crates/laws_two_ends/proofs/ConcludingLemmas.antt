@@ -83,7 +83,7 @@ inside zero s there =
     (record { some = some_point; place = 0; selector = any_selector; there = refl; inside = λ p held. held })
 inside (suc place) s there = absurd cc
 
-all_inside : AnswersOffer any_traffic (any_selector ∷ [])
+pub all_inside : AnswersOffer any_traffic (any_selector ∷ [])
 all_inside = record { some = omega arith; each = inside }
 
 accepted_terms : AreAcceptedTerms (asked_of worked_child) response_payloads agreed_terms

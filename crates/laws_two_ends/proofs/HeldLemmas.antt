@@ -25,7 +25,7 @@ use Rattle.laws_two_ends.proofs.Stages.{answering, answering_table, asking, aski
 -- ---- the tables
 
 -- where the pair came, its SPI is reserved no more
-unreserved : (spi : ℕ) → set.remove (set.insert (set.empty {R = nat_cmp}) spi) spi ≡ set.empty
+pub unreserved : (spi : ℕ) → set.remove (set.insert (set.empty {R = nat_cmp}) spi) spi ≡ set.empty
 unreserved spi = set.same_set nat_cmp_total set.nat_cmp-IsAntisymmetric (set.remove (set.insert set.empty spi) spi) set.empty (λ n.
     set.contains-remove nat_cmp_total (set.insert set.empty spi) spi n ∙ elim (eqb_tells n spi) [
       | inl (_, same) ↦

@@ -54,20 +54,20 @@ use Rattle.laws_two_ends.proofs.SoundnessLemmas.{sound_next, timely_alone, NoSpi
 use Rattle.laws_two_ends.proofs.Stages.{accepts, all_keyed, all_steps, answered_child, answering, answering_table, answers, asked_child, asking, asking_table, begins, both_children, carried_octets, child_world, concludes, counted, counts, delivered_world, end_with, hands_up, is_there, last_world, later_table, one_taken, pair_of, probed, probed_world, probes, probing, probing_world, sealed_world, seals, sent_alive, sent_answer, sent_auth, sent_packet, sent_probe, sent_request, sent_response, stored_of, table_with, tells}
 
 -- the key of what A sends, and of what B sends
-abbrev asking_key : Octets
+abbrev pub asking_key : Octets
 asking_key = key_at 0 (child_material worked_record.sk_d worked_record.nonce_i worked_record.nonce_r)
 
-abbrev answering_key : Octets
+abbrev pub answering_key : Octets
 answering_key = key_at 1 (child_material worked_record.sk_d worked_record.nonce_i worked_record.nonce_r)
 
-once_in : OneTime → (keys : KeyRecord) (made : List KeyRecord) → made ≡ keys ∷ [] → times keys made ≤ 1
+pub once_in : OneTime → (keys : KeyRecord) (made : List KeyRecord) → made ≡ keys ∷ [] → times keys made ≤ 1
 once_in one_time keys made is =
     let one : times keys (keys ∷ []) ≡ 1 = (one_time keys keys).1 refl in
     let same : times keys made ≡ times keys (keys ∷ []) = ap (times keys) is in
     omega (arith, one, same)
 
 -- the table may hold another pair, since the same SPIs are reserved then
-other_pair : {C : Type 0} (end : End) (caller : C) (a : Association) (spi : ℕ) (one other : Pair) → IsSoundTable (table_with spi other)
+pub other_pair : {C : Type 0} (end : End) (caller : C) (a : Association) (spi : ℕ) (one other : Pair) → IsSoundTable (table_with spi other)
     → IsSoundState (end_with end caller a (table_with spi one)) → IsSoundState (end_with end caller a (table_with spi other))
 other_pair {C} end caller a spi one other table sound = record {
   machine = record {
@@ -168,15 +168,15 @@ module _ {C : Type 0} (a b : C) (response : Octets) where
   }
 
   -- A after the packet was sealed, and B after it came
-  sound_sealed : IsSoundState (child_world a b response).a → IsSoundState (sealed_world a b response).a
+  pub sound_sealed : IsSoundState (child_world a b response).a → IsSoundState (sealed_world a b response).a
   sound_sealed sound =
       other_pair A a asking 256 (pair_of Initiator 0 (unused_window 2)) (pair_of Initiator 1 (unused_window 2)) (asking_table_is_sound 1) sound
 
-  sound_delivered : IsSoundState (child_world a b response).b → IsSoundState (delivered_world a b response).b
+  pub sound_delivered : IsSoundState (child_world a b response).b → IsSoundState (delivered_world a b response).b
   sound_delivered sound =
       other_pair B b (answering response) 512 (pair_of Responder 0 (unused_window 2)) (pair_of Responder 0 one_taken) later_table_is_sound sound
 
-  probe_steps : ike.Steps run_meaning all_protected (ike.Order (orders.Probe 1) (fresh_of 6)) (end_with A a asking (asking_table 1)).machine (asking_table 1)
+  pub probe_steps : ike.Steps run_meaning all_protected (ike.Order (orders.Probe 1) (fresh_of 6)) (end_with A a asking (asking_table 1)).machine (asking_table 1)
       (asking_step 1 2 worked_request) (end_with A a probing (asking_table 1)).machine (asking_table 1)
   probe_steps = (refl, probe_asks (config_at A) all_protected (fresh_of 6) (asking_table 1))
 
@@ -211,7 +211,7 @@ module _ {C : Type 0} (a b : C) (response : Octets) where
   }
 
   -- A after it sent the probe
-  sound_probing : SoundnessStays → NoSpiIsLost → IsSoundState (child_world a b response).a → IsSoundState (probing_world a b response).a
+  pub sound_probing : SoundnessStays → NoSpiIsLost → IsSoundState (child_world a b response).a → IsSoundState (probing_world a b response).a
   sound_probing stays none_lost sound =
       sound_next stays none_lost run_meaning (ike.Order (orders.Probe 1) (fresh_of 6)) (asking_step 1 2 worked_request)
       (sealed_world a b response).a (probing_world a b response).a (sound_sealed sound) probe_steps (asking_table_is_sound 1)

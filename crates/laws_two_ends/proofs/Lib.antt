@@ -25,16 +25,16 @@ pub mod TakenLemmas
 pub mod InformationalLemmas
 pub mod ArrivalLemmas
 pub mod SenderLemmas
-mod Stages
-mod SoundnessLemmas
-mod NewEndLemmas
-mod BeginningLemmas
-mod KeyedLemmas
-mod ResponseLemmas
-mod AcceptingLemmas
-mod ConcludingLemmas
-mod HeldLemmas
-mod AskingLemmas
-mod LastLemmas
-mod WorkedRunLemmas
+pub mod Stages
+pub mod SoundnessLemmas
+pub mod NewEndLemmas
+pub mod BeginningLemmas
+pub mod KeyedLemmas
+pub mod ResponseLemmas
+pub mod AcceptingLemmas
+pub mod ConcludingLemmas
+pub mod HeldLemmas
+pub mod AskingLemmas
+pub mod LastLemmas
+pub mod WorkedRunLemmas
 mod WorkedExchangeLemmas

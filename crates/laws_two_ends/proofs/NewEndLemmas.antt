@@ -162,7 +162,7 @@ none_at place a is = cc
 pub none_found : (serial : ℕ) (a : Association) → association_of serial [] ≡ Some a → ⊥
 none_found serial a is = cc
 
-new_machine_is_sound : (config : Config) (table : Database) → IsConfig config → IsSoundMachine (new_machine config) table
+pub new_machine_is_sound : (config : Config) (table : Database) → IsConfig config → IsSoundMachine (new_machine config) table
 new_machine_is_sound config table is = record {
   held = record {
     first = omega arith;

@@ -28,7 +28,7 @@ use Rattle.laws_two_ends.proofs.SoundnessLemmas.{NoSpiIsLost, SoundnessStays}
 use Rattle.laws_two_ends.proofs.Stages.{accepts, all_steps, answered_child, answers, asked_child, begins, carried_octets, child_world, concludes, counted, counts, hands_up, is_there, last_world, probed, probes, probing, seals, tells, told_world, two_taken}
 
 -- what takes place after one list of steps goes on from where that ended
-followed_by : {C : Type 0} (meaning_of : C → Meaning) (hs gs : List (Happening C)) (old between new : WorldState C) → IsWorldTrail meaning_of old hs between
+pub followed_by : {C : Type 0} (meaning_of : C → Meaning) (hs gs : List (Happening C)) (old between new : WorldState C) → IsWorldTrail meaning_of old hs between
     → IsWorldTrail meaning_of between gs new → IsWorldTrail meaning_of old (hs ++ gs) new
 followed_by {C} meaning_of [] gs old between new same later = subst (λ (w : WorldState C). IsWorldTrail meaning_of w gs new) same later
 followed_by {C} meaning_of (h ∷ hs) gs old between new (begins_at, takes, others) later =
