@@ -158,11 +158,11 @@ SealsAll octets places end code after before told room filled = (code ≡ 101) �
 
 -- ---- how it goes, a group at a time
 
--- no part of a buffer
+-- no part of the room
 abbrev pub no_span : Span
 no_span = record { child = 0; number = 0; length = 0 }
 
--- the part of a buffer that the ESP packet of a packet is, of so many octets
+-- the part of the room that the ESP packet of a packet is, of so many octets
 abbrev pub span_of_laid : ℕ → Laid → Span
 span_of_laid octets (laid.Sealed child number) = record { child = child; number = number; length = octets }
 span_of_laid octets (laid.Clear packet) = no_span
@@ -183,19 +183,21 @@ IsPlaceRefusal octets place room why =
     ((¬ LiesIn octets place) × (why ≡ Place))
     ⊎ (LiesIn octets place × (¬ HasRoom (packet_at octets place) room) × (why ≡ ShortRoom))
 
--- what stands in the room behind what is used of it, up to an end
+-- the octets of the room from what is used of it up to an end
 abbrev pub laid_behind : ℕ → ℕ → Octets → Octets
 laid_behind used end room = take (end - used) (drop used room)
 
--- The packet at a place is taken, but that its ESP packet has no ICV yet. It stands in the room behind those
--- that were laid behind what is used of it; behind it stands what stood there.
+-- The packet at a place is taken or refused alone. Up to `used` the room has whole ESP packets. From there to
+-- `begin` stand ESP packets without ICVs, whose parts are any spans of that length. The new one stands from
+-- `begin` on, and what stood behind it stays. Once all have their ICVs, this is a step of `TakesOutAt`.
 pub record LaysNext (octets : Octets) (place : SukPlace) (used begin : ℕ) (old : State PeerCaller) (room : Octets) (told : SukOutput) (span : Span) (new : State PeerCaller) (filled : Octets) : Type 0 where
   pub takes : (spans : List Span) → octets_of spans ≡ begin - used
       → TakesOutAt octets (length room) place (record { gateway = old; octets = take used room ++ finished_row old.table.pairs spans (laid_behind used begin room) }) told (record { gateway = new; octets = take used filled ++ finished_row new.table.pairs (spans ++ span ∷ []) (laid_behind used (begin + span.length) filled) })
   pub fits : begin + span.length ≤ length room
   pub behind : drop (begin + span.length) filled ≡ drop (begin + span.length) room
 
--- the same of the packets at several places
+-- The packets at several places are taken or refused alone, in order, where nothing is laid behind what is
+-- used of the room. At the end their ESP packets stand from `used` to `end`, without ICVs.
 pub record LaysGroup (octets : Octets) (places : List SukPlace) (used : ℕ) (old : State PeerCaller) (room : Octets) (end : ℕ) (new : State PeerCaller) (told : List SukOutput) (spans : List Span) (filled : Octets) : Type 0 where
   pub runs : Runs (TakesOutAt octets (length room)) places told (record { gateway = old; octets = take used room }) (record { gateway = new; octets = take used filled ++ finished_row new.table.pairs spans (laid_behind used end filled) })
   pub begins : used ≤ end
@@ -203,8 +205,8 @@ pub record LaysGroup (octets : Octets) (places : List SukPlace) (used : ℕ) (ol
   pub fits : end ≤ length room
   pub behind : drop end filled ≡ drop end room
 
--- Packets are taken, and their ESP packets stand in the room behind what was used of it; behind them stands
--- what stood there.
+-- Packets are taken or refused alone, in order. Their ESP packets stand whole in the room from `used` to `end`;
+-- behind them stands what stood there.
 pub record TakesOutGroup (octets : Octets) (places : List SukPlace) (used : ℕ) (old : State PeerCaller) (room : Octets) (end : ℕ) (new : State PeerCaller) (told : List SukOutput) (filled : Octets) : Type 0 where
   pub runs : Runs (TakesOutAt octets (length room)) places told (record { gateway = old; octets = take used room }) (record { gateway = new; octets = take end filled })
   pub begins : used ≤ end

@@ -76,8 +76,8 @@ pub extern "C" fn suk_esp_all(
 ///
 /// In the record of one packet, which is refused alone: 109 where its place doesn't lie in the buffer, 103
 /// where the room that is left is shorter than the packet and 29 octets, 20 where there is no memory for it.
-/// The handle keeps what it lays a packet in, so memory is taken only where a packet is longer than each
-/// before it. 103, with nothing done, where there are fewer records than places; 101 before that.
+/// The handle keeps what it lays a packet in, so memory is taken only for a packet that is longer than each
+/// that was laid before it. 103, with nothing done, where there are fewer records than places; 101 before that.
 #[unsafe(no_mangle)]
 pub extern "C" fn suk_outward_all(
     alloc: Global,
@@ -306,7 +306,7 @@ fn seal_by(
     if few {
         return Refusal::ShortRoom.code();
     }
-    // It is the handle's own from list to list, so that none of them takes memory that another one took.
+    // The handle keeps it between calls, so that the next list needn't take that memory again.
     let mut buffer = mem::replace(&mut hosted.buffer, Items::new(alloc)).into_vec();
     seal_groups(&mut hosted.gateway, octets, places, room, outs, &mut buffer);
     buffer.clear();
@@ -420,10 +420,11 @@ fn lay_group(
     end
 }
 
-// Takes the packet at a place, if there is room for it behind the beginning of what is free, but for the ICV
-// of its ESP packet, which is written there. Tells what came of it, and what its ESP packet is.
+// Takes the packet at a place. Its ESP packet, still without its ICV, is written into the room from `begin`
+// on. Answers the record, and which part of the room the ESP packet is: none where the packet is refused, or
+// goes out without ESP.
 //
-// The packet is laid in a buffer of its own and copied at once, while the processor has it near.
+// It is laid in the handle's buffer first and copied at once, while it is in the processor's cache.
 fn lay_next(
     gateway: &mut Gateway<PeerCaller>,
     octets: &[u8],
@@ -451,7 +452,7 @@ fn lay_next(
     }
 }
 
-// No part of a buffer.
+// No part of the room.
 fn nothing() -> Span
     ensures { result ≡ no_span }
 {
@@ -499,7 +500,7 @@ fn told_at(laid: &Laid<'_>, begin: usize, length: usize) -> SukOutput
     }
 }
 
-// The part of the buffer that a packet's ESP packet is, of so many octets; no part where it has none.
+// The part of the room that a packet's ESP packet is, of so many octets; no part where it has none.
 fn span_of(laid: &Laid<'_>, length: usize) -> Span
     ensures { result ≡ span_of_laid length laid.now }
 {
