@@ -1,4 +1,7 @@
+mod Nonces
 mod WorkedStrangerLemmas
 mod WorkedClosingLemmas
 mod ProvedLemmas
 mod PartnerLemmas
+mod WorkedPartnerLemmas
+mod DrawnLemmas

@@ -1,5 +1,5 @@
 -- Who is established as initiator has a partner.
-use Rattle.std.proofs.Common.{◌≡◌, ◌⊎◌, ◌<◌, ◌==◌, ◌∷◌, inl, inr, ℕ, Bool, true, false, not, ◌&&◌, List, [], Option, Some, None, slice_get, refl, sym, ap, subst, ◌∙◌, arith}
+use Rattle.std.proofs.Common.{◌≡◌, ◌<◌, ◌==◌, ◌∷◌, inl, inr, ℕ, Bool, true, false, not, ◌&&◌, List, [], Option, Some, None, slice_get, refl, sym, ap, subst, ◌∙◌, arith}
 use Rattle.std.specs.Prelude.{option_and_then}
 use Rattle.base.specs.Octets.{Octets}
 use Rattle.wire.specs.Messages.{Spells}
@@ -17,7 +17,6 @@ use Rattle.association.specs.Phases.{keys_in}
 use Rattle.association.specs.declared.phase.Association.{Association}
 use Rattle.association.specs.declared.phase.AuthSent.{AuthSent}
 use Rattle.association.specs.declared.phase.HalfOpen.{HalfOpen}
-use Rattle.association.specs.declared.phase.InitSent.{InitSent}
 use Rattle.association.specs.declared.phase.Phase.{Phase}
 use Rattle.association.specs.declared.phase.Phase.TheVariants as phase
 use Rattle.auth.specs.Proofs.{octets_to_prove, proving_of}
@@ -30,12 +29,11 @@ use Rattle.ike.specs.LawsOfOutputs.{TracesNameWhatIsHeld}
 use Rattle.ike.specs.LawsOfPeers.{TheEstablishedProvedThemselves}
 use Rattle.ike.specs.Machines.{association_of, keys_of_serial, Machine}
 use Rattle.ike.specs.Proving.{ProvedBy}
-use Rattle.ike.specs.Receiving.{is_initial_request}
 use Rattle.ike.specs.Records.{ComesToKeysAsInitiator, ComesToKeysAsResponder, Introduction, SaysOfSender}
 use Rattle.ike.specs.Soundness.{IsSoundMachine}
 use Rattle.ike.specs.Steps as ike
 use Rattle.ike.specs.declared.output.Stepped.{Stepped}
-use Rattle.gateway.specs.Exchanges.{AnswersRequest, HaveExchanged, ReadsResponse, SendsRequest}
+use Rattle.gateway.specs.Exchanges.{HaveExchanged, ReadsResponse, SendsRequest}
 use Rattle.gateway.specs.Inputs.{Input}
 use Rattle.gateway.specs.Inputs as input
 use Rattle.gateway.specs.Requests.{for_ike}
@@ -44,13 +42,14 @@ use Rattle.gateway.specs.WorldHistories.{Happening, IsWorldTrail}
 use Rattle.gateway.specs.Worlds.{gateway_at, other_end, HoldsNothing, TakesEvent, WorldState}
 use Rattle.gateway.specs.declared.world.stored.End.{End}
 use Rattle.gateway.specs.declared.world.stored.End.TheVariants.{A, B}
-use Rattle.gateway.proofs.AlongLemmas.{after_here, after_there, ahead, between, each_end, kept_along, Keeps}
+use Rattle.gateway.proofs.AlongLemmas.{after_here, after_there, ahead, between, each_end, kept_along}
 use Rattle.gateway.proofs.BeforeLemmas.{given_before, none_some, same_one}
 use Rattle.gateway.proofs.ChildLemmas.{way_of}
 use Rattle.gateway.proofs.ExchangeLemmas.{given_there, held_on, keys_agree, made_of, request_tells, step_at, MadeAt, Offered, RecordLaws, TellsOffer}
 use Rattle.gateway.proofs.IntroductionLemmas.{introduced}
-use Rattle.laws_authenticated.specs.Agreeing.{IsEstablishedAsInitiator, EachNonceIsOfOne, HasNonce, HasPartner, HasProved, IsToBeProved, NoProofIsForged, ProvesAsInitiator, ProvesAsResponder}
-use Rattle.laws_authenticated.proofs.ProvedLemmas.{proved_tells, Proves}
+use Rattle.laws_authenticated.proofs.Nonces.{EachNonceIsOfOne}
+use Rattle.laws_authenticated.specs.Agreeing.{IsEstablishedAsInitiator, HasPartner, HasProved, IsToBeProved, NoProofIsForged, ProvesAsInitiator, ProvesAsResponder}
+use Rattle.laws_authenticated.proofs.ProvedLemmas.{proved_tells}
 
 -- what is known of one step
 pub record PartnerLaws : Type 0 where

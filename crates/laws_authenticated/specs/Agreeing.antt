@@ -14,9 +14,9 @@ use Rattle.effects.specs.Taking.{Meaning}
 use Rattle.ike.specs.Proving.{ProvedBy}
 use Rattle.ike.specs.Steps.{InputView}
 use Rattle.gateway.specs.Requests.{for_ike}
-use Rattle.gateway.specs.States.{association_in, State}
+use Rattle.gateway.specs.States.{association_in}
 use Rattle.gateway.specs.WorldHistories.{Happening}
-use Rattle.gateway.specs.Worlds.{gateway_at, other_end, WorldState}
+use Rattle.gateway.specs.Worlds.{gateway_at, other_end}
 use Rattle.gateway.specs.declared.world.stored.End.{End}
 use Rattle.gateway.specs.Exchanges.{AnswersRequest, HaveExchanged, ReadsResponse, SendsRequest}
 
@@ -90,23 +90,6 @@ pub record NoProofIsForged {C : Type 0} (meaning_of : C → Meaning) (happenings
       → association_in (gateway_at h.event.end h.after) serial ≡ Some is
       → is.phase ≡ phase.Established keys
       → HasProved happenings place (other_end h.event.end) octets
-
--- ---- nonces
-
--- an IKE SA of this end, which waits for the response of IKE_AUTH, has keys with this nonce of its own
-pub record HasNonce {C : Type 0} (w : WorldState C) (end : End) (serial : ℕ) (nonce : Octets) : Type 0 where
-  pub association : Association
-  pub there : association_in (gateway_at end w) serial ≡ Some association
-  pub told : AuthSent
-  pub tells : association.phase ≡ phase.AuthSent told
-  pub is : told.keys.nonce_i ≡ nonce
-
--- No nonce is drawn twice: of two IKE SAs that an end began, one that waits for the response of IKE_AUTH after
--- a step and one that waits for it before a step have each its own (section 2.10).
-pub record EachNonceIsOfOne {C : Type 0} (happenings : List (Happening C)) : Type 0 where
-  pub each : (place other : ℕ) (h g : Happening C) (end : End) (serial another : ℕ) (nonce : Octets)
-      → slice_get happenings place ≡ Some h → slice_get happenings other ≡ Some g
-      → HasNonce h.after end serial nonce → HasNonce g.before end another nonce → serial ≡ another
 
 -- ---- who agrees
 

@@ -1,3 +1,5 @@
 pub mod WorkedStrangers
 pub mod WorkedClosings
 pub mod Agreeing
+pub mod WorkedPartners
+pub mod DrawnNonces

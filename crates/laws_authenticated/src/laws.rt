@@ -18,8 +18,10 @@ ghost use Rattle.gateway.specs.declared.output.Output.{Output};
 ghost use Rattle.gateway.specs.Carrying.{EachPairIsOfAnEstablished, KeepsSettings, OnlyTheKnownCarry, OnlyTheProvedCarry, SealsWhatIsProtected};
 ghost use Rattle.gateway.specs.Closing.{IsOverBy, NothingIsCarriedAfter};
 ghost use Rattle.gateway.specs.Inside.{LiesInside};
-ghost use Rattle.laws_authenticated.specs.Agreeing.{IsEstablishedAsInitiator, EachNonceIsOfOne, HasPartner, NoProofIsForged};
+ghost use Rattle.laws_authenticated.specs.Agreeing.{IsEstablishedAsInitiator, HasPartner, NoProofIsForged};
 ghost use Rattle.laws_authenticated.specs.WorkedClosings.{CanLeaveAStrangerOut, IsClosedByItsPeer};
+ghost use Rattle.laws_authenticated.specs.WorkedPartners.{IsWorkedPartner};
+ghost use Rattle.laws_authenticated.specs.DrawnNonces.{EachNonceIsDrawnOnce};
 ghost use Rattle.laws_authenticated.specs.WorkedStrangers.{IsMetByAStranger};
 
 use effects::laws::associations_stay_themselves;
@@ -27,9 +29,9 @@ use gateway::laws::each_end_has_its_events;
 use ike::laws::{
     both_ends_make_one_record, children_are_made_of_their_messages, each_association_is_sound,
     each_association_was_there_or_came, first_requests_tell_what_is_held,
-    keys_come_by_what_is_read, requests_are_remembered, soundness_stays, steps_keep_their_laws,
-    the_established_proved_themselves, traces_name_what_is_held, who_asks_has_read,
-    who_is_half_open_was_so, who_waits_keeps_its_offer,
+    keys_come_by_what_is_read, no_spi_is_lost, requests_are_remembered, soundness_stays,
+    steps_keep_their_laws, the_established_proved_themselves, traces_name_what_is_held,
+    who_asks_has_read, who_is_half_open_was_so, who_waits_keeps_its_offer,
 };
 use moments::laws::{pairs_go_with_their_associations, some_are_held_on, what_is_held_was_held};
 use suite::{Agreement, Proof, Sealer};
@@ -229,8 +231,8 @@ pub fn a_stranger_is_left_out_of_a_worked_run<C>()
 ///
 /// Two things are assumed. No proof is forged: where an end's check accepts a proof of its peer over some octets,
 /// and an IKE SA is established by it, the other end had proved these octets before (`NoProofIsForged`). And no
-/// two IKE SAs that an end began have drawn one nonce (`EachNonceIsOfOne`). Neither of a responder nor of a
-/// second partner anything is said.
+/// end is given one nonce twice, as fresh octets of two steps with which it begins an IKE SA
+/// (`EachNonceIsDrawnOnce`). Neither of a responder nor of a second partner anything is said.
 pub fn an_established_initiator_has_a_partner<C: Sealer + Agreement + Proof>()
     ensures { (happenings : List (Happening C)) (old new : WorldState C)
         → IsWorldTrail
@@ -240,7 +242,7 @@ pub fn an_established_initiator_has_a_partner<C: Sealer + Agreement + Proof>()
         → NoProofIsForged
         (meaning_of C.Sealer C.Agreement C.Proof)
         happenings
-        → EachNonceIsOfOne happenings
+        → EachNonceIsDrawnOnce happenings
         → (place serial : ℕ) (h : Happening C) (end : End) (keys : KeyRecord)
         → slice_get happenings place ≡ Some h
         → IsEstablishedAsInitiator h end serial keys → HasPartner happenings place end serial keys }
@@ -260,4 +262,21 @@ pub fn an_established_initiator_has_a_partner<C: Sealer + Agreement + Proof>()
     who_asks_has_read();
     who_is_half_open_was_so();
     who_waits_keeps_its_offer();
+}
+
+/// The premises of [`an_established_initiator_has_a_partner`] are met, by a run of two new gateways that set
+/// up an IKE SA with its first Child SA (RFC 7296, section 1.2). Every datagram comes once, as it was sent.
+///
+/// No proof is forged in it. Each end accepts a proof of the other one, over octets that this one had proved
+/// before, so that premise asks something at either end. No nonce is drawn twice, since no end begins a second
+/// IKE SA. The end that began is established by the response of IKE_AUTH, and has its partner at the other.
+///
+/// So it is for whatever values of whatever type. What the callers mean is fixed, hides nothing, and keeps
+/// the laws of the traits. Either check accepts whatever proof there is: that none is forged lies in what
+/// came.
+pub fn the_premises_of_a_partner_are_met<C>()
+    ensures { (a b : C) → IsWorkedPartner a b }
+{
+    no_spi_is_lost();
+    soundness_stays();
 }

@@ -13,7 +13,8 @@
 //!   [`laws::a_stranger_is_left_out_of_a_worked_run`]: a worked gateway that holds an IKE SA stays as it was
 //!   where a stranger asks to delete that, and closes it where the peer does, with the stranger or without.
 //! - [`laws::an_established_initiator_has_a_partner`]: who is established as initiator agrees with the other end
-//!   on what both sent and on their keys, where no proof is forged and no nonce is drawn twice.
+//!   on what both sent and on their keys, where no proof is forged and no nonce is drawn twice. A worked run
+//!   of two new gateways [meets these premises](laws::the_premises_of_a_partner_are_met).
 //!
 //! What the first four say of a list `gateway::run` promises, and their lemmas stand in [`gateway`], as those
 //! on strangers do.

@@ -1,6 +1,7 @@
 use Rattle.std.proofs.Common.{refl}
 use Rattle.effects.specs.Taking.{asker_of, meaning_of}
 use Rattle.gateway.proofs.ExchangeLemmas.{RecordLaws}
+use Rattle.laws_authenticated.proofs.DrawnLemmas.{each_is_of_one}
 use Rattle.laws_authenticated.proofs.PartnerLemmas.{partner_of, PartnerLaws}
 use Rattle.laws_authenticated.proofs.laws.an_established_initiator_has_a_partner.Goals as goal
 
@@ -32,6 +33,6 @@ returns g c =
       proved = c.the_established_proved_themselves.ensures;
       one_message = c.octets_spell_one_message.ensures.message;
     } in
-    λ hs old new trail begins unforged apart place serial h end keys there established.
-    partner_of laws meant g.C.Agreement.public_value (λ caller. refl) hs old new trail begins unforged apart
+    λ hs old new trail begins unforged drawn place serial h end keys there established.
+    partner_of laws meant g.C.Agreement.public_value (λ caller. refl) hs old new trail begins unforged (each_is_of_one laws meant hs old new trail begins drawn)
     (λ caller answerer. c.both_ends_make_one_record.ensures (asker_of (meant caller)) (meant answerer).cipher (meant answerer).group) place h there serial end keys established
