@@ -1,6 +1,6 @@
 -- In the run with extended sequence numbers no ICV is forged: what comes has the number that it has by the
 -- numbers taken before it.
-use Rattle.std.proofs.Common.{◌≡◌, ◌∷◌, ℕ, zero, suc, true, List, [], Option, Some, None, length, ap, arith, refl, subst, sym, ◌∙◌}
+use Rattle.std.proofs.Common.{◌≡◌, ◌↔◌, ◌∷◌, ℕ, zero, suc, true, List, [], Option, Some, None, length, ap, arith, refl, subst, sym, ◌∙◌}
 use Rattle.std.specs.FinMap as map
 use Rattle.std.specs.FinSet as set
 use Rattle.std.specs.Ordering.{nat_cmp}
@@ -26,17 +26,19 @@ use Rattle.gateway.specs.Packets.{table_passage, table_passages}
 use Rattle.gateway.specs.WorldHistories.{passage_at, passages_at}
 use Rattle.gateway.specs.declared.world.stored.End.TheVariants.{B}
 use Rattle.gateway.proofs.PartyLemmas.{some_is}
-use Rattle.laws_two_ends.proofs.MapLemmas.{none_found, only_there, put_there}
+use Rattle.laws_two_ends.proofs.MapLemmas.{none_found, only_there, put_again, put_there}
 use Rattle.laws_two_ends.proofs.TableLemmas.{lone_in, none_taken}
-use Rattle.laws_worked.specs.SecondDeliveries.{sent_to_it}
-use Rattle.laws_worked.proofs.ExtendedCarriedLemmas.{judged, low_half_is}
-use Rattle.laws_worked.proofs.ExtendedStages.{accepts, all_steps, answers, carried_octets, hands_up, pair_of, terms}
+use Rattle.laws_worked.specs.ExtendedRuns.{extended_numbers_of_it}
+use Rattle.laws_worked.specs.Replays.{sent_to_it}
+use Rattle.laws_worked.proofs.ExtendedCarriedLemmas.{is_taken, judged, low_half_is, number_is_one}
+use Rattle.laws_worked.proofs.JudgedNumberLemmas.{are_numbers, nothing_came, packet_came}
+use Rattle.laws_worked.proofs.ExtendedStages.{accepts, all_steps, answering_table, answers, carried_octets, hands_up, later_table, pair_of, terms}
 use Rattle.laws_two_ends.proofs.LastLemmas.{answering_key, asking_key}
-use Rattle.laws_two_ends.proofs.Stages.{agreed_keys}
+use Rattle.laws_two_ends.proofs.Stages.{agreed_keys, one_taken}
 
 -- where nothing was judged at the first two places, nothing is taken before the third
-first_two_none : (before : set.FinSet nat_cmp) (taken : List (Option ℕ)) → ((n : ℕ) → slice_get taken 0 ≡ Some (Some n) → ⊥)
-    → ((n : ℕ) → slice_get taken 1 ≡ Some (Some n) → ⊥) → taken_after before (take 2 taken) ≡ before
+first_two_none : (before : set.FinSet nat_cmp) (numbers : List (Option ℕ)) → ((n : ℕ) → slice_get numbers 0 ≡ Some (Some n) → ⊥)
+    → ((n : ℕ) → slice_get numbers 1 ≡ Some (Some n) → ⊥) → taken_after before (take 2 numbers) ≡ before
 first_two_none before [] zeroth first = refl
 first_two_none before (Some n ∷ others) zeroth first = absurd (zeroth n refl)
 first_two_none before (None ∷ []) zeroth first = refl
@@ -86,21 +88,42 @@ module _ {C : Type 0} (a b : C) where
       association_at pair (ap (λ (q : tables.Passage). pair_at q.before.pairs 1) (some_is second p here) ∙ there)
   association_in (suc (suc (suc place))) p here pair there = absurd cc
 
-  module _ (taken : List (Option ℕ)) (are : AreNumbersOf 1 arrivals taken) where
+  -- ---- as which numbers packets are accepted
+
+  number_there : (n : ℕ) → (Some 1 ≡ Some n) ↔ IsJudgedAs 1 n second
+  number_there n = (
+    λ is. subst (λ (k : ℕ). IsJudgedAs 1 k second) (some_is 1 n is) (record {
+      reception = record { packet = carried_octets; outcome = traffic.Up 1 1 worked_payload };
+      received = refl;
+      takes = is_taken 512 256 (omega arith) asking_key answering_key answering_table later_table.pairs
+          (sym (put_again map.empty 1 (pair_of Responder 0 (unused_window 2)) (pair_of Responder 0 one_taken)));
+    }),
+    λ judges.
+        let one : n ≡ 1 =
+        number_is_one 512 256 (omega arith) asking_key answering_key answering_table judges.reception.packet 1 n later_table
+        (packet_came (record { packet = carried_octets; outcome = traffic.Up 1 1 worked_payload }) judges.reception second refl judges.received) judges.takes in
+        ap (λ (k : ℕ). Some k) (sym one),
+  )
+
+  pub numbers_are : AreNumbersOf 1 arrivals extended_numbers_of_it
+  numbers_are =
+      are_numbers 1 arrivals extended_numbers_of_it (nothing_came 1 zeroth refl, (nothing_came 1 first refl, (number_there, tt)))
+
+  module _ (numbers : List (Option ℕ)) (are : AreNumbersOf 1 arrivals numbers) where
     none_judged : (n : ℕ) (p : tables.Passage) → p.received ≡ None → IsJudgedAs 1 n p → ⊥
     none_judged n p none is = none_came is.reception (sym none ∙ is.received)
 
-    none_before : taken_after (taken_at_first 1 arrivals) (take 2 taken) ≡ set.empty
+    none_before : taken_after (taken_at_first 1 arrivals) (take 2 numbers) ≡ set.empty
     none_before =
-        first_two_none (taken_at_first 1 arrivals) taken (λ n is. none_judged n zeroth refl ((are.exactly 0 n zeroth refl).0 is))
+        first_two_none (taken_at_first 1 arrivals) numbers (λ n is. none_judged n zeroth refl ((are.exactly 0 n zeroth refl).0 is))
         (λ n is. none_judged n first refl ((are.exactly 1 n first refl).0 is))
         ∙ ap taken_by (map.get-empty nat_cmp 1)
 
-    top_is : (pair : Pair) → (seen_before 1 pair arrivals taken 2).top ≡ 0
+    top_is : (pair : Pair) → (seen_before 1 pair arrivals numbers 2).top ≡ 0
     top_is pair = ap greatest none_before ∙ greatest-empty
 
     no_other : (place n : ℕ) (packet : Octets) (p : tables.Passage) (pair : Pair) → slice_get arrivals place ≡ Some p → ComesTo 1 pair packet p
-        → IsNumber pair.inbound.association.extended (seen_before 1 pair arrivals taken place) (low_half packet) n
+        → IsNumber pair.inbound.association.extended (seen_before 1 pair arrivals numbers place) (low_half packet) n
         → map.get (sent_to_it carried_octets) n ≡ Some packet
     no_other zero n packet p pair here comes number =
         absurd (none_came comes.reception (ap (λ (q : tables.Passage). q.received) (some_is zeroth p here) ∙ comes.received))
@@ -112,8 +135,8 @@ module _ {C : Type 0} (a b : C) where
         sym (comes.packet_is
         ∙ same_reception (record { packet = carried_octets; outcome = traffic.Up 1 1 worked_payload }) comes.reception
         (ap (λ (q : tables.Passage). q.received) (some_is second p here) ∙ comes.received)) in
-        let long : IsNumber true (seen_before 1 pair arrivals taken 2) (low_half packet) n =
-        subst (λ (s : esp.Sa). IsNumber s.extended (seen_before 1 pair arrivals taken 2) (low_half packet) n) association number in
+        let long : IsNumber true (seen_before 1 pair arrivals numbers 2) (low_half packet) n =
+        subst (λ (s : esp.Sa). IsNumber s.extended (seen_before 1 pair arrivals numbers 2) (low_half packet) n) association number in
         let low = long.low_half in
         let cycle = long.one_cycle in
         let top = top_is pair in
@@ -122,7 +145,7 @@ module _ {C : Type 0} (a b : C) where
         put_there map.empty 1 n carried_octets number_is ∙ ap (λ (o : Octets). Some o) came
     no_other (suc (suc (suc place))) n packet p pair here comes number = absurd cc
 
-    pub is_unforged : Unforged 1 arrivals taken (sent_to_it carried_octets)
+    pub is_unforged : Unforged 1 arrivals numbers (sent_to_it carried_octets)
     is_unforged = record {
       whole = λ n packet sent.
           subst (λ (o : Octets). IsJudgedLength (length o)) (sym (only_there map.empty refl 1 carried_octets n packet sent).content)

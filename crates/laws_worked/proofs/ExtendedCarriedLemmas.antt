@@ -163,3 +163,14 @@ module _ (spi other : ℕ) (small : spi < 2 ^ 32) (first second : Octets) where
       taken = record { association = refl; window = one_is_taken };
       changed = record { there = (lone_in unused).there; content = ap with_pairs is };
     }
+
+    -- by no other number
+    pub number_is_one : (octets : Octets) (child number : ℕ) (new : Database) → carried ≡ octets
+        → TakesNumberAt (with_pairs (lone_pair unused)) octets child number new → number ≡ 1
+    number_is_one octets child number new same takes =
+        let found : takes.pair ≡ unused = ((lone_in unused).only takes.pair.serial takes.pair takes.addressed.inbound.there).content in
+        let judges : Judges by (unused_window 2) octets number = subst (λ (p : Pair). Judges p.inbound.association p.inbound.window octets number) found takes.judged in
+        let low = judges.number.low_half in
+        let cycle = judges.number.one_cycle in
+        let one : low_half octets ≡ 1 = ap low_half (sym same) ∙ low_half_is in
+        omega (arith, low, cycle, one)

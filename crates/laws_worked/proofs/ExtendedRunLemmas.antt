@@ -17,19 +17,19 @@ use Rattle.gateway.specs.Packets.{JudgesPacket}
 use Rattle.gateway.specs.States.{IsSoundState}
 use Rattle.gateway.specs.WorldHistories.{passage_at, IsWorldTrail}
 use Rattle.gateway.specs.WorldPackets.{IsJudgedAt}
-use Rattle.gateway.specs.Worlds.{child_with, datagram_of, mark_by, TakesEvent}
+use Rattle.gateway.specs.Worlds.{child_with, datagram_of, gateway_at, mark_by, HoldsNothing, TakesEvent}
 use Rattle.gateway.specs.declared.world.stored.End.{End}
 use Rattle.gateway.specs.declared.world.stored.End.TheVariants.{A, B}
 use Rattle.gateway.proofs.PartyLemmas.{at_head, further_on}
 use Rattle.gateway.proofs.WorkedRequestLemmas.{none_there}
 use Rattle.laws_two_ends.specs.WorkedRecords.{fresh_of, worked_record}
 use Rattle.laws_two_ends.specs.WorkedChildren.{lone_pair}
-use Rattle.laws_two_ends.specs.WorkedRuns.{run_meaning, spi_at}
+use Rattle.laws_two_ends.specs.WorkedRuns.{run_meaning, spi_at, IsTyped}
 use Rattle.laws_two_ends.proofs.InitLemmas.{answer_octets, request_octets}
 use Rattle.laws_two_ends.proofs.MapLemmas.{put_again, put_there}
 use Rattle.laws_two_ends.proofs.TableLemmas.{few_pairs, lone_in, sound_table, unused_sound, IsFit}
-use Rattle.laws_worked.specs.ExtendedRuns.{extended_config, extended_end, extended_ends, IsRunWithExtendedNumbers}
-use Rattle.laws_worked.proofs.ExtendedArrivalLemmas.{is_unforged}
+use Rattle.laws_worked.specs.ExtendedRuns.{extended_config, extended_end, extended_ends, extended_numbers_of_it, IsRunWithExtendedNumbers}
+use Rattle.laws_worked.proofs.ExtendedArrivalLemmas.{is_unforged, numbers_are}
 use Rattle.laws_worked.proofs.ExtendedCarriedLemmas.{addressed, is_taken, it_is_received, it_is_sealed, judged}
 use Rattle.laws_worked.proofs.ExtendedMessageLemmas.{request_octets as auth_octets, response_octets}
 use Rattle.laws_worked.proofs.ExtendedStages.{accepted_world, accepts, all_steps, answered_child, answered_world, answering_table, answers, asked_child, asking_table, begins, begun_world, both_keyed, carried_octets, child_world, concludes, delivered_world, exchanged, hands_up, later_table, pair_of, sealed_world, seals, sent_auth, sent_response, tells, told_world}
@@ -37,7 +37,7 @@ use Rattle.laws_worked.proofs.ExtendedTakingLemmas.{accept_steps, accepted_step,
 use Rattle.laws_worked.proofs.FurtherLemmas.{stays_sound_with}
 use Rattle.laws_two_ends.proofs.HeldLemmas.{unreserved}
 use Rattle.laws_two_ends.proofs.LastLemmas.{answering_key, asking_key}
-use Rattle.laws_two_ends.proofs.NewEndLemmas.{empty_is_sound, new_machine_is_sound, reserved_is_sound, sealing, set_up, starts}
+use Rattle.laws_two_ends.proofs.NewEndLemmas.{can_be, empty_is_sound, is_fresh, new_machine_is_sound, policy_is_sound, reserved_is_sound, sealing, set_up, starts, typed}
 use Rattle.laws_worked.proofs.RecoveryLemmas.{SoundLaws}
 use Rattle.laws_two_ends.proofs.Stages.{one_taken, sent_answer, sent_request, stored_of, table_with}
 
@@ -54,6 +54,10 @@ new_is_sound {C} end caller = record {
   timely = λ place d less. absurd (omega (arith, less));
   reservations = λ spi there. absurd (none_there spi there);
 }
+
+typed_so : (end : End) → IsTyped (extended_config end)
+typed_so A = let is = typed A in record { own = is.own; peer = is.peer; cookie_secret = is.cookie_secret }
+typed_so B = let is = typed B in record { own = is.own; peer = is.peer; cookie_secret = is.cookie_secret }
 
 -- ---- the tables
 
@@ -89,6 +93,11 @@ abbrev child_of_b : MadeChild
 child_of_b = record { serial = 1; ike = 1; number = 1; asked = false }
 
 -- ---- the steps
+
+module _ {C : Type 0} (a b : C) where
+  holds_nothing : (end : End) → HoldsNothing (gateway_at end (extended_ends a b))
+  holds_nothing A = record { associations = refl; moment = refl; given = refl }
+  holds_nothing B = record { associations = refl; moment = refl; given = refl }
 
 module _ {C : Type 0} (a b : C) (laws : SoundLaws) where
   sound_begun : IsSoundState (begun_world a b).a
@@ -236,6 +245,13 @@ module _ {C : Type 0} (a b : C) (laws : SoundLaws) where
     kept = refl;
   }
 
+  -- the pair that judged it has extended sequence numbers
+  esn_is : (of_it : JudgesPacket 1 1 carried_octets (passage_at B (hands_up a b))) → of_it.takes.pair.inbound.association.extended ≡ true
+  esn_is of_it =
+      let pair : Pair = of_it.takes.pair in
+      ap (λ (p : Pair). p.inbound.association.extended)
+      ((lone_in (pair_of Responder 0 (unused_window 2))).only pair.serial pair of_it.takes.addressed.inbound.there).content
+
   pub extended_is : IsRunWithExtendedNumbers a b
   extended_is = record {
     exchanged = exchanged;
@@ -244,12 +260,23 @@ module _ {C : Type 0} (a b : C) (laws : SoundLaws) where
     takes = refl;
     says = refl;
     trail = run_is;
+    can_be = can_be;
     configs = configs;
+    typed = typed_so;
+    policy = policy_is_sound;
+    starts = starts;
+    holds_nothing = holds_nothing a b;
+    fresh = λ number least most. is_fresh number least (omega (arith, most));
     asked = asked_child;
     answered = answered_child;
     asked_there = further_on answered_child (asked_child ∷ []) asked_child (at_head asked_child []);
     answered_there = at_head answered_child (asked_child ∷ []);
     of_one = record { keys = refl; ends = refl; asked_is = refl; answered_is = refl; number = refl };
+    number_is = refl;
+    asked_end = refl;
+    asked_serial = refl;
+    answered_end = refl;
+    answered_serial = refl;
     asked_extended = record { inward = refl; outward = refl };
     answered_extended = record { inward = refl; outward = refl };
     asked_pair = pair_of Initiator 1 (unused_window 2);
@@ -258,8 +285,11 @@ module _ {C : Type 0} (a b : C) (laws : SoundLaws) where
     answered_held = delivered_pair;
     mirror = record { inward = refl; outward = refl; extension = refl; local = refl; remote = refl };
     packet_step = hands_up a b;
-    delivers = refl;
+    packet_there = refl;
+    passage_there = refl;
     packet_comes = packet_comes;
     judges = judges;
-    unforged = is_unforged a b;
+    esn = esn_is judges;
+    numbers = numbers_are a b;
+    unforged = is_unforged a b extended_numbers_of_it (numbers_are a b);
   }

@@ -43,7 +43,7 @@ use Rattle.laws_two_ends.proofs.AuthLemmas.{worked_child}
 use Rattle.laws_two_ends.proofs.InitLemmas.{answer_octets, request_octets}
 use Rattle.laws_two_ends.proofs.RequestLemmas.{after}
 use Rattle.laws_two_ends.proofs.WorkedRecordLemmas.{worked_beginning}
-use Rattle.laws_worked.specs.ExtendedRuns.{extended_config, extended_end, extended_ends, Extended}
+use Rattle.laws_worked.specs.ExtendedRuns.{extended_config, extended_end, extended_ends, RunDatagrams}
 use Rattle.laws_worked.proofs.ExtendedMessageLemmas.{request_octets as auth_octets, response_octets}
 use Rattle.laws_two_ends.proofs.Stages.{agreed_keys, answering, keyed_by, one_taken, opened, reserved_table, sent_answer, sent_request, stored_of, table_with}
 
@@ -149,7 +149,7 @@ sent_packet = datagram_of A (mark.Esp (simplex_of carrying) 1) carried_octets
 abbrev pub both_keyed : List Keyed
 both_keyed = keyed_by B ∷ keyed_by A ∷ []
 
-abbrev pub exchanged : Extended
+abbrev pub exchanged : RunDatagrams
 exchanged = record {
   init_request = request_octets;
   init_response = answer_octets;

@@ -1,6 +1,6 @@
 -- The run with an additional Child SA meets the premises on both ends: what comes under the keys had been
 -- sent.
-use Rattle.std.proofs.Common.{◌∷◌, ℕ, Bool, List, [], refl}
+use Rattle.std.proofs.Common.{◌∷◌, ℕ, Bool, false, true, List, [], refl}
 use Rattle.std.proofs.lemmas.List.Elements.{Contains-append_left, Contains-push}
 use Rattle.base.specs.Octets.{Octets}
 use Rattle.replay.specs.Window.{unused_window}
@@ -23,18 +23,19 @@ use Rattle.laws_worked.specs.FurtherChildren.{IsRunWithFurtherChild}
 use Rattle.laws_two_ends.proofs.AcceptingLemmas.{auth_request_was_sent}
 use Rattle.laws_two_ends.proofs.ConcludingLemmas.{auth_response_was_sent}
 use Rattle.laws_worked.proofs.FurtherLemmas.{answered_there, asked_there, delivered_first, delivered_second, further_run_is, mirrored, of_one, sealed_first, sealed_second}
-use Rattle.laws_worked.proofs.FurtherMessageLemmas.{answered as further_answered_message, answering_octets, answering_spelled, asked as further_asked_message, asking_octets, asking_spelled}
+use Rattle.laws_worked.proofs.FreshLemmas.{is_fresh}
+use Rattle.laws_worked.proofs.FurtherMessageLemmas.{answered as further_answered_message, answering_octets, answering_spelled, asked as further_asked_message, asking_octets, asking_spelled, plain_octets}
 use Rattle.laws_worked.proofs.FurtherSenderLemmas.{alone, alone_back, packet_comes, sent_before, unforged_back, unforged_to}
-use Rattle.laws_worked.proofs.FurtherStages.{answered_thrice, asks_further, counted_thrice, counts_child, delivered_world, further_answered, further_asked, further_pair, further_steps, furthering_world, hands_up_further, made_world, makes_child, more, seals_further, sent_answering, sent_asking}
+use Rattle.laws_worked.proofs.FurtherStages.{answered_thrice, asks_further, counted_thrice, counts_child, delivered_world, further_answered, further_asked, further_pair, further_steps, furthering, furthering_world, hands_up_further, made_world, makes_child, more, seals_further, sent_answering, sent_asking}
 use Rattle.laws_two_ends.proofs.KeyedLemmas.{none_comes_answering, none_comes_beginning, none_comes_telling}
 use Rattle.laws_two_ends.proofs.LastLemmas.{all_at, answer_was_sent, none_comes_handing_up, none_comes_probing, none_comes_sealing, once_in, probe_was_sent}
 use Rattle.laws_two_ends.proofs.NewEndLemmas.{new_ends_are_sound, NewWorldsAreSound}
 use Rattle.laws_worked.proofs.RecoveryLemmas.{SoundLaws}
 use Rattle.laws_worked.proofs.RecoveryMessageLemmas.{answer_spelled, answered, asked, asked_spelled}
-use Rattle.laws_worked.proofs.RecoveryStages.{again, asks_again, goes_again, matches, replied_world, replies, second_alive, second_sent, ticked_world}
-use Rattle.laws_worked.proofs.RepeatLemmas.{repeats_it}
+use Rattle.laws_worked.proofs.RecoveryStages.{again, answered_twice, asks_again, goes_again, matches, replied_world, replies, second_alive, second_sent, ticked_world}
+use Rattle.laws_worked.proofs.RetransmissionLemmas.{answers_again}
 use Rattle.laws_two_ends.proofs.ResponseLemmas.{response_octets}
-use Rattle.laws_worked.proofs.SecondDeliveryLemmas.{comes_again, exchanged, last}
+use Rattle.laws_worked.proofs.ReplayRunLemmas.{comes_again, exchanged, last}
 use Rattle.laws_two_ends.proofs.Stages.{one_taken, pair_of, sent_alive, sent_answer, sent_auth, sent_packet, sent_probe, sent_request, sent_response}
 
 -- what was sent in the first run, up to A's probe
@@ -54,9 +55,9 @@ module _ {C : Type 0} (a b : C) where
   none_comes h none response number octets comes = absurd (none response number octets comes)
 
   module _ (one_message : OneMessage) where
-    probe_again : WasSent (repeats_it a b)
+    probe_again : WasSent (answers_again a b)
     probe_again =
-        was_sent one_message (λ _. run_meaning) worked_record (repeats_it a b) first_asked worked_request first_asked_spelled (λ octets same. same) A
+        was_sent one_message (λ _. run_meaning) worked_record (answers_again a b) first_asked worked_request first_asked_spelled (λ octets same. same) A
         (last a b).stored (Contains-append_left (sent_request ∷ sent_answer ∷ sent_auth ∷ sent_response response_octets ∷ sent_packet ∷ sent_probe ∷ [])
         (sent_alive ∷ []) sent_probe (Contains-push before_probe sent_probe))
 
@@ -168,6 +169,44 @@ module _ {C : Type 0} (a b : C) where
     roles = refl;
   }
 
+  request_comes : ComesUnder (λ _. run_meaning) worked_record false 4 asking_octets (makes_child a b)
+  request_comes = record {
+    association = answered_twice;
+    held = record { serial = 1; there = refl; keyed = refl };
+    datagram = refl;
+    opens = record {
+      message = further_asked_message;
+      spelled = asking_spelled;
+      spis = refl;
+      from_sender = refl;
+      is_response = refl;
+      number_is = refl;
+      keys = worked_record;
+      keyed = refl;
+      plain = record { first = 33; octets = plain_octets 1 13 };
+      opened = refl;
+    };
+  }
+
+  response_comes : ComesUnder (λ _. run_meaning) worked_record true 4 answering_octets (counts_child a b)
+  response_comes = record {
+    association = furthering;
+    held = record { serial = 1; there = refl; keyed = refl };
+    datagram = refl;
+    opens = record {
+      message = further_answered_message;
+      spelled = answering_spelled;
+      spis = refl;
+      from_sender = refl;
+      is_response = refl;
+      number_is = refl;
+      keys = worked_record;
+      keyed = refl;
+      plain = record { first = 33; octets = plain_octets 2 14 };
+      opened = refl;
+    };
+  }
+
   unforged_by_then : OneMessage → OneTime → IsUnforgedUpTo (λ _. run_meaning) worked_record further_answered (further_steps a b) 20 (hands_up_further a b)
   unforged_by_then one_message one_time = record {
     messages = λ early g response number octets least there. unforged_run one_message early g response number octets there;
@@ -188,6 +227,7 @@ module _ {C : Type 0} (a b : C) where
     takes = refl;
     says = refl;
     trail = further_run_is a b laws;
+    fresh = is_fresh;
     sound = new_ends_are_sound are_sound a b;
     unforged = unforged_run one_message;
     once = never_made_twice one_time;
@@ -195,6 +235,12 @@ module _ {C : Type 0} (a b : C) where
     answering = answered_thrice;
     held = both_held;
     held_back = both_held_back;
+    request_step = makes_child a b;
+    requests = refl;
+    request_comes = request_comes;
+    response_step = counts_child a b;
+    reads = refl;
+    response_comes = response_comes;
     asked = further_asked;
     answered = further_answered;
     asked_there = asked_there a b;
@@ -216,7 +262,7 @@ module _ {C : Type 0} (a b : C) where
     first_held = sealed_first;
     other_first_held = delivered_first;
     packet_step = hands_up_further a b;
-    delivers = refl;
+    packet_there = refl;
     packet_comes = packet_comes a b;
     unforged_to = unforged_to a b;
     one_sender = alone (delivered_world a b).stored refl;

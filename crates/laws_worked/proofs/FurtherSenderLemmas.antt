@@ -24,9 +24,9 @@ use Rattle.laws_worked.proofs.FurtherLemmas.{answering_key, apart, asking_key, f
 use Rattle.laws_worked.proofs.FurtherStages.{answering_two, asks_further, counts_child, delivered_world, further_answered, further_asked, further_carried, further_pair, further_steps, hands_up_further, makes_child, seals_further, sent_answering, sent_asking, sent_further}
 use Rattle.laws_two_ends.proofs.LastLemmas.{all_at}
 use Rattle.laws_worked.proofs.RecoveryStages.{asks_again, goes_again, matches, replies, second_alive, second_sent}
-use Rattle.laws_worked.proofs.RepeatLemmas.{repeats_it}
+use Rattle.laws_worked.proofs.RetransmissionLemmas.{answers_again}
 use Rattle.laws_two_ends.proofs.ResponseLemmas.{response_octets}
-use Rattle.laws_worked.proofs.SecondDeliveryLemmas.{comes_again}
+use Rattle.laws_worked.proofs.ReplayRunLemmas.{comes_again}
 use Rattle.laws_two_ends.proofs.Stages.{accepts, answered_child, answers, asked_child, begins, concludes, counts, hands_up, is_there, one_taken, pair_of, probes, seals, sent_alive, sent_answer, sent_auth, sent_packet, sent_probe, sent_request, sent_response, tells}
 use Rattle.laws_worked.proofs.TwoPairLemmas.{addressed, packet_was_sent}
 
@@ -111,7 +111,7 @@ module _ {C : Type 0} (a b : C) where
                           (
                             two,
                             (
-                              none (repeats_it a b) refl,
+                              none (answers_again a b) refl,
                               (
                                 none (asks_again a b) refl,
                                 (

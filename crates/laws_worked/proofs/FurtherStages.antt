@@ -34,7 +34,7 @@ use Rattle.gateway.specs.declared.world.stored.End.TheVariants.{A, B}
 use Rattle.gateway.specs.declared.world.stored.Protection.TheVariants as mark
 use Rattle.laws_two_ends.specs.WorkedRecords.{fresh_of, worked_record}
 use Rattle.laws_two_ends.specs.WorkedRuns.{comes_to}
-use Rattle.laws_worked.specs.FurtherChildren.{Furthered}
+use Rattle.laws_worked.specs.FurtherChildren.{ChildDatagrams}
 use Rattle.laws_two_ends.proofs.AcceptingLemmas.{any_selector}
 use Rattle.laws_worked.proofs.FurtherMessageLemmas.{answering_octets, asking_octets, nonce_of}
 use Rattle.laws_worked.proofs.RecoveryStages.{answered_twice, counted_twice, end_then, four_taken, matched_world, recovery_steps, second_alive, second_sent}
@@ -159,7 +159,7 @@ further_carried = packet further_carrying 1 4 worked_payload 2
 abbrev pub sent_further : Datagram
 sent_further = datagram_of A (mark.Esp (simplex_of further_carrying) 1) further_carried
 
-abbrev pub more : Furthered
+abbrev pub more : ChildDatagrams
 more = record { request = asking_octets; response = answering_octets; packet = further_carried }
 
 -- ---- the steps

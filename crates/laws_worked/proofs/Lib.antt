@@ -1,6 +1,8 @@
+mod FreshLemmas
+mod JudgedNumberLemmas
 mod ReplayLemmas
-mod SecondDeliveryLemmas
-mod RepeatLemmas
+mod ReplayRunLemmas
+mod RetransmissionLemmas
 mod RecoveryStages
 mod RecoveryMessageLemmas
 mod RecoveryLemmas

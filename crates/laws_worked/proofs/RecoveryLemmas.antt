@@ -1,12 +1,13 @@
--- In the run that begins with two new gateways a second probe is lost, goes out again and is answered.
+-- In the run that begins with two new gateways a second probe is lost, is retransmitted and is answered.
 use Rattle.std.proofs.Common.{◌≡◌, ◌∷◌, inl, [], None, ap, arith, refl, subst, sym, ◌∙◌}
 use Rattle.std.specs.FinMap as numbers
 use Rattle.std.specs.Prelude.{replicate}
 use Rattle.sadb.specs.Database.{Database, IsSoundTable}
 use Rattle.association.specs.declared.phase.Association.{Association}
 use Rattle.association.specs.declared.phase.Request.{Request}
+use Rattle.moments.specs.declared.ticking.Ticked.{Ticked}
 use Rattle.effects.specs.declared.taking.Effect.TheVariants as effect
-use Rattle.ike.specs.LawsOfTimes.{MachinesStayTimely}
+use Rattle.ike.specs.LawsOfTimes.{MachinesStayTimely, WhatIsDueComes}
 use Rattle.ike.specs.Machines.{new_machine, Machine}
 use Rattle.ike.specs.Moments.{WaitsAt}
 use Rattle.ike.specs.Orders as orders
@@ -14,6 +15,8 @@ use Rattle.ike.specs.Outputs.{asking_step, plain_step, stepped_of}
 use Rattle.ike.specs.Steps as ike
 use Rattle.ike.specs.declared.output.IkeOutput.TheVariants as ike_output
 use Rattle.ike.specs.declared.output.Stepped.{Stepped}
+use Rattle.gateway.specs.Moments.{Brings}
+use Rattle.gateway.specs.Outputs.{Ticked as Told}
 use Rattle.gateway.specs.Requests.{TakesEffect}
 use Rattle.gateway.specs.States.{IsSoundState, State}
 use Rattle.gateway.specs.WorkedRequests.{worked_reply}
@@ -36,18 +39,19 @@ use Rattle.laws_two_ends.proofs.LastLemmas.{sound_probing}
 use Rattle.laws_two_ends.proofs.NewEndLemmas.{sealing}
 use Rattle.laws_worked.proofs.RecoveryMessageLemmas.{all_pass, answer_spelled, asked_spelled, asks_that, fresh_three, in_effect, it_waits, none_waits, none_waits_then, opens, request_takes, response_takes}
 use Rattle.laws_worked.proofs.RecoveryStages.{again, again_request, answered_twice, asked_world, asks_again, counted_twice, goes_again, matched_world, matches, recovery_steps, replied_world, replies, second_request, ticked_world, waiting_by}
-use Rattle.laws_worked.proofs.RepeatLemmas.{repeat_run_is, repeat_steps, repeated_world}
+use Rattle.laws_worked.proofs.RetransmissionLemmas.{answered_again, retransmission_run_is, retransmission_steps}
 use Rattle.laws_two_ends.proofs.ResponseLemmas.{response_octets}
-use Rattle.laws_worked.proofs.SecondDeliveryLemmas.{exchanged, last_other_is_sound}
+use Rattle.laws_worked.proofs.ReplayRunLemmas.{exchanged, last_other_is_sound}
 use Rattle.laws_two_ends.proofs.SoundnessLemmas.{NoSpiIsLost, SoundnessStays}
 use Rattle.laws_two_ends.proofs.Stages.{asking_table, counted, probed, probing_world}
 use Rattle.laws_two_ends.proofs.WorkedRunLemmas.{followed_by}
 
--- the laws by which a gateway stays sound over a step of the machine of IKE
+-- the laws by which a gateway stays sound over a step of the machine of IKE, and what a time brings
 pub record SoundLaws : Type 0 where
   pub stays : SoundnessStays
   pub lost : NoSpiIsLost
   pub timely : MachinesStayTimely
+  pub comes : WhatIsDueComes
 
 -- it does, over one that leaves the table as it is
 pub stays_sound : {C : Type 0} → SoundLaws → (given : ike.InputView) (stepped : Stepped) (old new : State C) → IsSoundState old → new.table ≡ old.table
@@ -78,7 +82,7 @@ abbrev pub later_machine : Machine
 later_machine = record (new_machine (config_at A)) { moment = 1000 }
 
 module _ {C : Type 0} (a b : C) where
-  asks_so : ike.Steps run_meaning all_protected (ike.Order (orders.Probe 1) (fresh_of 10)) (repeated_world a b).a.machine (asking_table 1)
+  asks_so : ike.Steps run_meaning all_protected (ike.Order (orders.Probe 1) (fresh_of 10)) (answered_again a b).a.machine (asking_table 1)
       asks_step (asked_world a b).a.machine (asking_table 1)
   asks_so = (refl, asks_that (config_at A) all_protected (fresh_of 10) (asking_table 1))
 
@@ -95,16 +99,16 @@ module _ {C : Type 0} (a b : C) where
   }
 
   module _ (laws : SoundLaws) where
-    -- A, where the first probe was answered, where it asked again, and where the request went out again
-    sound_first : IsSoundState (repeated_world a b).a
+    -- A, where the first probe was answered, where it asked again, and where it retransmitted the request
+    sound_first : IsSoundState (answered_again a b).a
     sound_first =
         let child = child_one_is_sound a b laws.stays laws.lost (asking_table_is_sound 0) asking_in_time (told_one_is_sound laws.stays laws.lost a b) in
         stays_sound laws (ike.Message (replicate 4 2) worked_reply (fresh_of 8)) (stepped_of 1 2 (effect.Counted nothing_ended))
-        (probing_world a b response_octets).a (repeated_world a b).a (sound_probing a b response_octets laws.stays laws.lost child) refl
+        (probing_world a b response_octets).a (answered_again a b).a (sound_probing a b response_octets laws.stays laws.lost child) refl
         (takes_alone (new_machine (config_at A)) all_protected (replicate 4 2) (fresh_of 8) first_answer_spelled refl refl (reply_takes _ _))
 
     sound_asked : IsSoundState (asked_world a b).a
-    sound_asked = stays_sound laws (ike.Order (orders.Probe 1) (fresh_of 10)) asks_step (repeated_world a b).a (asked_world a b).a sound_first refl asks_so
+    sound_asked = stays_sound laws (ike.Order (orders.Probe 1) (fresh_of 10)) asks_step (answered_again a b).a (asked_world a b).a sound_first refl asks_so
 
     sound_ticked : IsSoundState (ticked_world a b).a
     sound_ticked = stays_sound laws (ike.Tick 1000) ticks_step (asked_world a b).a (ticked_world a b).a sound_asked refl ticks_so
@@ -179,8 +183,8 @@ module _ {C : Type 0} (a b : C) where
 
     pub recovery_run_is : IsWorldTrail (λ _. run_meaning) (new_ends a b) (recovery_steps a b) (matched_world a b)
     recovery_run_is =
-        followed_by (λ _. run_meaning) (repeat_steps a b) (asks_again a b ∷ goes_again a b ∷ replies a b ∷ matches a b ∷ []) (new_ends a b) (repeated_world a b)
-        (matched_world a b) (repeat_run_is a b laws.stays laws.lost) (refl, asks_it, (refl, ticks_it, (refl, replies_it, (refl, matches_it, refl))))
+        followed_by (λ _. run_meaning) (retransmission_steps a b) (asks_again a b ∷ goes_again a b ∷ replies a b ∷ matches a b ∷ []) (new_ends a b) (answered_again a b)
+        (matched_world a b) (retransmission_run_is a b laws.stays laws.lost) (refl, asks_it, (refl, ticks_it, (refl, replies_it, (refl, matches_it, refl))))
 
     -- ---- what waits, and what is processed
 
@@ -191,6 +195,20 @@ module _ {C : Type 0} (a b : C) where
     no_more : (request : Request) → ¬ WaitsAt (matches a b).after.a.machine.held 1 3 request
     no_more request waits =
         none_waits_then request (ap (λ (x : Association). numbers.get x.outgoing.outstanding 3) (some_is counted_twice waits.association waits.there) ∙ waits.waits)
+
+    same_ticked : (one other : Ticked) → ike_output.Ticked one ≡ ike_output.Ticked other → one ≡ other
+    same_ticked one other is = cc
+
+    it_brings : Brings 1000 (passage_at A (goes_again a b))
+    it_brings =
+        let comes = laws.comes run_meaning all_protected 1000 (asked_world a b).a.machine (asking_table 1) ticks_step (ticked_world a b).a.machine (asking_table 1) ticks_so in
+        let same = same_ticked (record { requests = sent_again again ∷ []; closed = [] }) comes.ticked comes.said in
+        record {
+          ticked = comes.ticked;
+          said = ap (λ (t : Ticked). Told t.requests t.closed) same;
+          brings = comes.brings;
+          moment = refl;
+        }
 
     takes_effect : TakesEffect 1 3 (passage_at B (replies a b))
     takes_effect = record {
@@ -221,16 +239,21 @@ module _ {C : Type 0} (a b : C) where
       ticking_there = refl;
       request = second_request;
       request_octets = refl;
+      timer = refl;
       waits = record { association = waiting_by second_request; there = refl; waits = it_waits second_request };
+      not_before = omega arith;
       due = (omega arith, omega arith);
+      moment_before = refl;
+      greatest = refl;
       moment = refl;
       memory = refl;
+      brings = it_brings;
       goes_out_again = refl;
       arriving = passage_at B (replies a b);
       arriving_there = refl;
-      was = probed;
-      was_held = refl;
-      was_established = refl;
+      answerer = probed;
+      answerer_held = refl;
+      answerer_established = refl;
       same_spis = (refl, refl);
       opposite = refl;
       is_new = record { exchange = 37; opens = opens; fresh = fresh_three; admitted = refl };
@@ -240,6 +263,11 @@ module _ {C : Type 0} (a b : C) where
       matching_there = refl;
       later = again_request;
       later_octets = refl;
+      asker_then = waiting_by again_request;
+      asker_then_held = refl;
+      asker_then_keyed = refl;
+      same_spis_then = (refl, refl);
+      opposite_then = refl;
       still_waits = record { association = waiting_by again_request; there = refl; waits = it_waits again_request };
       matched = refl;
       waits_no_more = no_more;

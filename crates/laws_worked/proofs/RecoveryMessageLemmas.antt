@@ -1,4 +1,4 @@
--- A asks a second time whether B is there. The request goes out again at the end of its first wait, is
+-- A asks a second time whether B is there. The request is retransmitted at the end of its first wait, is
 -- processed at B and answered, and A matches the response.
 use Rattle.std.proofs.Common.{◌≡◌, ◌+◌, ◌<◌, ◌∷◌, inl, inr, ℕ, Bool, true, false, List, [], Some, Option, map, length, ap, arith, refl, subst, sym, ◌∙◌, None}
 use Rattle.std.proofs.lemmas.Bool.{true≢false}
@@ -168,7 +168,7 @@ pub none_waits_then : (request : Request) → ¬ (numbers.get counted_twice.outg
 none_waits_then request there =
     none_found counted_twice.outgoing.outstanding (taken_out counted.outgoing.outstanding counted_waits_for_none 3 again_request) 3 request there
 
--- ---- it goes out again
+-- ---- it is retransmitted
 
 abbrev none_out : numbers.FinMap nat_cmp Request
 none_out = numbers.empty

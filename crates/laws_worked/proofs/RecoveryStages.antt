@@ -1,4 +1,4 @@
--- The worlds that the worked run goes through where a second probe is lost and goes out again, and its steps.
+-- The worlds that the worked run goes through where a second probe is lost and is retransmitted, and its steps.
 use Rattle.std.proofs.Common.{◌++◌, ◌∷◌, ℕ, true, false, List, [], None}
 use Rattle.std.specs.FinMap as map
 use Rattle.std.specs.FinSet as set
@@ -22,12 +22,12 @@ use Rattle.gateway.specs.declared.world.stored.Protection.TheVariants as mark
 use Rattle.laws_two_ends.specs.WorkedMessages.{alive_octets, probe_octets}
 use Rattle.laws_two_ends.specs.WorkedRecords.{fresh_of, worked_record}
 use Rattle.laws_two_ends.specs.WorkedRuns.{comes_to, config_at, new_end}
-use Rattle.laws_worked.specs.Recoveries.{sent_again, Asked}
-use Rattle.laws_worked.proofs.RepeatLemmas.{repeat_steps, repeated_world}
+use Rattle.laws_worked.specs.Recoveries.{sent_again, ProbeDatagrams}
+use Rattle.laws_worked.proofs.RetransmissionLemmas.{answered_again, retransmission_steps}
 use Rattle.laws_two_ends.proofs.ResponseLemmas.{response_octets}
 use Rattle.laws_two_ends.proofs.Stages.{all_keyed, asking_table, both_children, counted, end_with, later_table, opened, probed, sent_alive, sent_answer, sent_auth, sent_packet, sent_probe, sent_request, sent_response, stored_of, three_taken, world_of}
 
-abbrev pub again : Asked
+abbrev pub again : ProbeDatagrams
 again = record { probe = probe_octets; response = alive_octets }
 
 -- ---- the IKE SAs
@@ -105,7 +105,7 @@ module _ {C : Type 0} (a b : C) where
 
   abbrev pub asks_again : Happening C
   asks_again = record {
-    before = repeated_world a b;
+    before = answered_again a b;
     event = record { end = A; input = input.Probe 1 (fresh_of 10) };
     said = Requested 1 probe_octets;
     after = asked_world;
@@ -126,4 +126,4 @@ module _ {C : Type 0} (a b : C) where
   matches = record { before = replied_world; event = comes_to A alive_octets 12; said = Counted 1 None None; after = matched_world }
 
   abbrev pub recovery_steps : List (Happening C)
-  recovery_steps = repeat_steps a b ++ asks_again ∷ goes_again ∷ replies ∷ matches ∷ []
+  recovery_steps = retransmission_steps a b ++ asks_again ∷ goes_again ∷ replies ∷ matches ∷ []

@@ -1,5 +1,5 @@
-pub mod SecondDeliveries
-pub mod Repeats
+pub mod Replays
+pub mod Retransmissions
 pub mod Recoveries
 pub mod FurtherChildren
 pub mod ExtendedRuns

@@ -2,38 +2,42 @@
 ghost use Rattle.laws_worked.specs.ExtendedRuns.{IsRunWithExtendedNumbers};
 ghost use Rattle.laws_worked.specs.FurtherChildren.{IsRunWithFurtherChild};
 ghost use Rattle.laws_worked.specs.Recoveries.{IsRunWithRecovery};
-ghost use Rattle.laws_worked.specs.Repeats.{IsRunWithRepeat};
-ghost use Rattle.laws_worked.specs.SecondDeliveries.{IsRunWithSecondDelivery};
+ghost use Rattle.laws_worked.specs.Replays.{IsRunWithReplay};
+ghost use Rattle.laws_worked.specs.Retransmissions.{IsRunWithRetransmission};
 
 use gateway::laws::new_worlds_are_wholly_sound;
 use ike::laws::{no_spi_is_lost, soundness_stays, what_is_due_comes_in_time};
 use lockstep::laws::what_was_sent_under_keys_is_told;
 use wire::laws::octets_spell_one_message;
 
-/// The premises of what is promised of packets are met, by a run of two new gateways. The one ESP packet of
-/// the run comes once more, and is dropped. Its number is taken at its first arrival, and not at its second.
-/// So it is for whatever values of whatever type: what the callers mean is fixed, and hides nothing.
-pub fn a_packet_that_comes_again_is_met_from_new_gateways_on<C>()
-    ensures { (a b : C) → IsRunWithSecondDelivery a b }
+/// The premises of `at_first` and `as_sent` of `PacketsAreDelivered` are met, by a run of two new gateways.
+/// The one ESP packet of the run comes once more, and is dropped as a replay. It is accepted at its first
+/// arrival, and not at its second. So it is for whatever values of whatever type: what the callers mean is
+/// fixed, and hides nothing.
+pub fn the_premises_of_replays_are_met_from_new_gateways_on<C>()
+    ensures { (a b : C) → IsRunWithReplay a b }
 {
     no_spi_is_lost();
     soundness_stays();
 }
 
-/// The premises of what is promised of requests that come again are met, by a run of two new gateways. The
-/// probe of the run is processed at its first arrival. It comes once more, gets the same response, and
-/// changes nothing.
-pub fn a_request_that_comes_again_is_met_from_new_gateways_on<C>()
-    ensures { (a b : C) → IsRunWithRepeat a b }
+/// The premises of `remembered` and `kept` of `RepeatsAreAnswered` are met, and of `otherwise` of
+/// `RequestsTakeEffect`, by a run of two new gateways. The probe of the run is processed at its first
+/// arrival. Its retransmission gets the same response, and changes nothing.
+pub fn the_premises_of_retransmissions_are_met_from_new_gateways_on<C>()
+    ensures { (a b : C) → IsRunWithRetransmission a b }
 {
     no_spi_is_lost();
     soundness_stays();
 }
 
-/// The premises of what is promised of moments and of what is lost are met, by a run of two new gateways. A
-/// second probe is lost. It goes out again at the moment that its first wait ends, in the same octets. That
-/// copy is processed and answered, and the response is matched.
-pub fn a_lost_request_is_recovered_from_new_gateways_on<C>()
+/// The premises of what is promised of a `Tick`, and of a request that is lost, are met, by a run of two new
+/// gateways. The first is `comes` of `MomentsComeInTime`. A second probe is lost. It is retransmitted at the
+/// moment that its first wait ends, in the same octets. That copy is processed and answered, and the response
+/// is matched.
+///
+/// No response is lost: of the request's two copies one arrives.
+pub fn the_premises_of_a_lost_request_are_met_from_new_gateways_on<C>()
     ensures { (a b : C) → IsRunWithRecovery a b }
 {
     no_spi_is_lost();
@@ -44,8 +48,8 @@ pub fn a_lost_request_is_recovered_from_new_gateways_on<C>()
 /// The premises of what is promised of the Child SAs of both ends are met, by a run of two new gateways that
 /// make an additional Child SA by CREATE_CHILD_SA. Each then holds a second pair, and the two mirror each
 /// other. A packet is sealed by it, and delivered. All that comes under the keys, and that packet, had been
-/// sent before.
-pub fn an_additional_child_is_made_from_new_gateways_on<C>()
+/// sent before. Nothing goes the other way by the child, so of that way its premises hold, and say nothing.
+pub fn the_premises_of_an_additional_child_are_met_from_new_gateways_on<C>()
     ensures { (a b : C) → IsRunWithFurtherChild a b }
 {
     new_worlds_are_wholly_sound::<C>();
@@ -56,10 +60,10 @@ pub fn an_additional_child_is_made_from_new_gateways_on<C>()
     what_was_sent_under_keys_is_told();
 }
 
-/// The premises of what is promised of packets are met with extended sequence numbers too, by a run of two new
-/// gateways that allow them. Their first Child SA has them both ways, and carries a packet from one end to the
-/// other. No ICV is forged.
-pub fn a_packet_with_extended_numbers_is_met_from_new_gateways_on<C>()
+/// The premises of `at_first` and `as_sent` of `PacketsAreDelivered` are met with extended sequence numbers
+/// too, by a run of two new gateways that allow them. Their first Child SA has them both ways, and carries a
+/// packet from one end to the other. No ICV is forged. The upper half of the packet's number is 0.
+pub fn the_premises_of_extended_numbers_are_met_from_new_gateways_on<C>()
     ensures { (a b : C) → IsRunWithExtendedNumbers a b }
 {
     no_spi_is_lost();

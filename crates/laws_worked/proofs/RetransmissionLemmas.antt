@@ -25,10 +25,10 @@ use Rattle.laws_two_ends.specs.WorkedRuns.{all_protected, comes_to, config_at, n
 use Rattle.laws_two_ends.proofs.ArrivalLemmas.{takes_alone}
 use Rattle.laws_two_ends.proofs.MapLemmas.{put_there}
 use Rattle.laws_two_ends.proofs.TakenLemmas.{fresh_next}
-use Rattle.laws_worked.specs.Repeats.{IsRunWithRepeat}
+use Rattle.laws_worked.specs.Retransmissions.{IsRunWithRetransmission}
 use Rattle.laws_two_ends.proofs.NewEndLemmas.{sealing}
 use Rattle.laws_two_ends.proofs.ResponseLemmas.{response_octets}
-use Rattle.laws_worked.proofs.SecondDeliveryLemmas.{delivery_run_is, delivery_steps, exchanged, last, last_other_is_sound}
+use Rattle.laws_worked.proofs.ReplayRunLemmas.{exchanged, last, last_other_is_sound, replay_run_is, replay_steps}
 use Rattle.laws_two_ends.proofs.SoundnessLemmas.{NoSpiIsLost, SoundnessStays}
 use Rattle.laws_two_ends.proofs.Stages.{all_keyed, answering, both_children, is_there, probed, sent_alive, sent_answer, sent_auth, sent_packet, sent_probe, sent_request, sent_response, stored_of}
 use Rattle.laws_two_ends.proofs.WorkedRunLemmas.{followed_by}
@@ -89,18 +89,18 @@ module _ {C : Type 0} (a b : C) where
   -- ---- the step
 
   -- after B answered it again; of what is sent, the response is stored once more
-  abbrev pub repeated_world : WorldState C
-  repeated_world = record (last a b) {
+  abbrev pub answered_again : WorldState C
+  answered_again = record (last a b) {
     stored = stored_of
         (sent_request ∷ sent_answer ∷ sent_auth ∷ sent_response response_octets ∷ sent_packet ∷ sent_probe ∷ sent_alive ∷ sent_alive ∷ [])
         (all_keyed a b response_octets) (both_children a b response_octets);
   }
 
-  abbrev pub repeats_it : Happening C
-  repeats_it = record { before = last a b; event = comes_to B worked_request 9; said = Repeat worked_reply; after = repeated_world }
+  abbrev pub answers_again : Happening C
+  answers_again = record { before = last a b; event = comes_to B worked_request 9; said = Repeat worked_reply; after = answered_again }
 
-  repeat_takes : SoundnessStays → NoSpiIsLost → TakesEvent (λ _. run_meaning) repeats_it.event repeats_it.before repeats_it.said repeats_it.after
-  repeat_takes stays lost = record {
+  retransmission_takes : SoundnessStays → NoSpiIsLost → TakesEvent (λ _. run_meaning) answers_again.event answers_again.before answers_again.said answers_again.after
+  retransmission_takes stays lost = record {
     sound = last_other_is_sound a b stays lost;
     fresh = sealing 9 (omega arith);
     trace = (stepped_of 1 2 (effect.Repeated worked_reply)).trace;
@@ -117,13 +117,13 @@ module _ {C : Type 0} (a b : C) where
     content = refl;
   }
 
-  abbrev pub repeat_steps : List (Happening C)
-  repeat_steps = delivery_steps a b ++ repeats_it ∷ []
+  abbrev pub retransmission_steps : List (Happening C)
+  retransmission_steps = replay_steps a b ++ answers_again ∷ []
 
-  pub repeat_run_is : SoundnessStays → NoSpiIsLost → IsWorldTrail (λ _. run_meaning) (new_ends a b) repeat_steps repeated_world
-  repeat_run_is stays lost =
-      followed_by (λ _. run_meaning) (delivery_steps a b) (repeats_it ∷ []) (new_ends a b) (last a b) repeated_world (delivery_run_is a b stays lost)
-      (refl, repeat_takes stays lost, refl)
+  pub retransmission_run_is : SoundnessStays → NoSpiIsLost → IsWorldTrail (λ _. run_meaning) (new_ends a b) retransmission_steps answered_again
+  retransmission_run_is stays lost =
+      followed_by (λ _. run_meaning) (replay_steps a b) (answers_again ∷ []) (new_ends a b) (last a b) answered_again (replay_run_is a b stays lost)
+      (refl, retransmission_takes stays lost, refl)
 
   -- ---- what is asked of both
 
@@ -135,29 +135,29 @@ module _ {C : Type 0} (a b : C) where
     comes = record { before = fresh_first.not_in_effect; after = first_three.has 2 (omega arith) };
   }
 
-  not_new_again : ¬ IsNew run_meaning (for_ike repeats_it.event.input) probed 2
+  not_new_again : ¬ IsNew run_meaning (for_ike answers_again.event.input) probed 2
   not_new_again new = true≢false (sym (first_three.has 2 (omega arith)) ∙ new.fresh.not_in_effect)
 
-  pub repeat_is : SoundnessStays → NoSpiIsLost → IsRunWithRepeat a b
-  repeat_is stays lost = record {
+  pub retransmission_is : SoundnessStays → NoSpiIsLost → IsRunWithRetransmission a b
+  retransmission_is stays lost = record {
     exchanged = exchanged;
-    happenings = repeat_steps;
-    last = repeated_world;
+    happenings = retransmission_steps;
+    last = answered_again;
     takes = refl;
     says = refl;
-    trail = repeat_run_is stays lost;
+    trail = retransmission_run_is stays lost;
     first = passage_at B (is_there a b response_octets);
     first_there = refl;
-    was = answering response_octets;
-    was_held = refl;
+    at_first = answering response_octets;
+    at_first_held = refl;
     is_new = record { exchange = 37; opens = opens_so; fresh = fresh_first; admitted = refl };
     takes_effect = first_takes;
     answers = record { closed = None; said = refl };
     is_first = inl (first_takes, record { closed = None; said = refl });
-    second = passage_at B repeats_it;
+    second = passage_at B answers_again;
     second_there = refl;
-    is = probed;
-    is_held = refl;
+    later = probed;
+    later_held = refl;
     opens = (37, opens_again);
     near = near;
     kept = reply_kept;

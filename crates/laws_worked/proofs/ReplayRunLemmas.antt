@@ -1,6 +1,6 @@
--- In the run that begins with two new gateways the packet comes to B again: the step takes place, and no ICV
--- in the run is forged.
-use Rattle.std.proofs.Common.{◌≡◌, ◌++◌, ◌∷◌, ℕ, false, List, [], Option, Some, None, ap, arith, refl, subst, sym, ◌∙◌}
+-- In the run that begins with two new gateways the packet comes to B again: the step takes place. As which
+-- numbers packets are accepted in the run, and that no ICV is forged.
+use Rattle.std.proofs.Common.{◌≡◌, ◌↔◌, ◌++◌, ◌∷◌, ℕ, false, List, [], Option, Some, None, ap, arith, refl, subst, sym, ◌∙◌}
 use Rattle.std.specs.FinMap as map
 use Rattle.std.specs.List.{AllByRecursion}
 use Rattle.std.specs.Prelude.{length, replicate, slice_get}
@@ -23,18 +23,19 @@ use Rattle.moments.specs.Held.{IsInTime}
 use Rattle.traffic.specs.Outcomes as traffic
 use Rattle.traffic.specs.declared.fault.PacketFault.TheVariants.{Esp}
 use Rattle.deliveries.specs.Arrivals.{Unforged}
-use Rattle.deliveries.specs.Numbers.{seen_before}
+use Rattle.deliveries.specs.Numbers.{seen_before, AreNumbersOf, IsJudgedAs}
 use Rattle.deliveries.specs.Passages as tables
 use Rattle.gateway.specs.Inputs.{Input}
 use Rattle.gateway.specs.Inputs as input
 use Rattle.gateway.specs.Outputs.{Dropped}
-use Rattle.gateway.specs.Packets.{table_passages, JudgesOne, JudgesPacket}
+use Rattle.gateway.specs.Packets.{table_passage, table_passages, JudgesOne, JudgesPacket}
 use Rattle.gateway.specs.States.{IsSoundState}
 use Rattle.gateway.specs.WorkedRequests.{worked_reply, worked_request}
 use Rattle.gateway.specs.WorldHistories.{passage_at, passages_at, Happening, IsWorldTrail}
 use Rattle.gateway.specs.Worlds.{TakesEvent, WorldState}
 use Rattle.gateway.specs.declared.fault.Reason.TheVariants.{Packet}
 use Rattle.gateway.specs.declared.world.stored.End.TheVariants.{B}
+use Rattle.gateway.proofs.PartyLemmas.{some_is}
 use Rattle.gateway.proofs.WorkedRequestLemmas.{asked_spelled}
 use Rattle.laws_two_ends.specs.WorkedRecords.{fresh_of}
 use Rattle.laws_two_ends.specs.WorkedRuns.{all_protected, config_at, new_ends, run_meaning, Exchanged}
@@ -46,16 +47,17 @@ use Rattle.laws_two_ends.proofs.InitLemmas.{answer_octets, request_octets}
 use Rattle.laws_two_ends.proofs.MapLemmas.{none_found, only_there, put_again, put_there}
 use Rattle.laws_two_ends.proofs.StateLemmas.{in_time_if}
 use Rattle.laws_two_ends.proofs.TableLemmas.{lone_in}
-use Rattle.laws_worked.specs.SecondDeliveries.{sent_to_it, IsRunWithSecondDelivery}
+use Rattle.laws_worked.specs.Replays.{numbers_of_it, sent_to_it, IsRunWithReplay}
+use Rattle.laws_worked.proofs.JudgedNumberLemmas.{are_numbers, none_judged, nothing_came, packet_came}
 use Rattle.laws_two_ends.proofs.AcceptingLemmas.{child_other_is_sound}
 use Rattle.laws_two_ends.proofs.AskingLemmas.{probe_takes}
 use Rattle.laws_two_ends.proofs.BeginningLemmas.{told_other_is_sound}
 use Rattle.laws_two_ends.proofs.HeldLemmas.{answering_in_time, answering_table_is_sound, later_table_is_sound}
 use Rattle.laws_two_ends.proofs.LastLemmas.{all_at, answering_key, asking_key, sound_delivered}
-use Rattle.laws_worked.proofs.ReplayLemmas.{is_dropped, is_not_taken, is_taken, low_half_is, passes}
+use Rattle.laws_worked.proofs.ReplayLemmas.{is_dropped, is_not_taken, is_taken, low_half_is, number_is_one, passes}
 use Rattle.laws_two_ends.proofs.ResponseLemmas.{response_octets}
 use Rattle.laws_two_ends.proofs.SoundnessLemmas.{sound_next, timely_alone, NoSpiIsLost, SoundnessStays}
-use Rattle.laws_two_ends.proofs.Stages.{agreed_keys, agreed_terms, all_steps, answering_table, carried_octets, delivered_world, hands_up, last_world, later_table, one_taken, pair_of, probed}
+use Rattle.laws_two_ends.proofs.Stages.{accepts, agreed_keys, agreed_terms, all_steps, answering_table, answers, carried_octets, delivered_world, hands_up, is_there, last_world, later_table, one_taken, pair_of, probed}
 use Rattle.laws_two_ends.proofs.WorkedRunLemmas.{followed_by, run_is}
 
 -- the datagrams of the run
@@ -121,11 +123,11 @@ module _ {C : Type 0} (a b : C) where
     content = refl;
   }
 
-  abbrev pub delivery_steps : List (Happening C)
-  delivery_steps = steps ++ comes_again ∷ []
+  abbrev pub replay_steps : List (Happening C)
+  replay_steps = steps ++ comes_again ∷ []
 
-  pub delivery_run_is : SoundnessStays → NoSpiIsLost → IsWorldTrail (λ _. run_meaning) (new_ends a b) delivery_steps last
-  delivery_run_is stays lost =
+  pub replay_run_is : SoundnessStays → NoSpiIsLost → IsWorldTrail (λ _. run_meaning) (new_ends a b) replay_steps last
+  replay_run_is stays lost =
       followed_by (λ _. run_meaning) steps (comes_again ∷ []) (new_ends a b) last last (run_is a b stays lost) (refl, drops_it stays lost, refl)
 
   -- ---- the two arrivals
@@ -154,7 +156,7 @@ module _ {C : Type 0} (a b : C) where
   by = inbound_of Responder agreed_keys agreed_terms
 
   abbrev arrivals : List tables.Passage
-  arrivals = table_passages (passages_at B delivery_steps)
+  arrivals = table_passages (passages_at B replay_steps)
 
   -- where the pair stands it receives so, and no packet comes but the one
   record IsOfOne (p : tables.Passage) : Type 0 where
@@ -203,8 +205,48 @@ module _ {C : Type 0} (a b : C) where
   of_one : (place : ℕ) (p : tables.Passage) → slice_get arrivals place ≡ Some p → IsOfOne p
   of_one = all_at IsOfOne arrivals all_of_one
 
-  is_unforged : (taken : List (Option ℕ)) → Unforged 1 arrivals taken (sent_to_it carried_octets)
-  is_unforged taken = record {
+  -- ---- as which numbers packets are accepted
+
+  abbrev first_arrival : tables.Passage
+  first_arrival = table_passage (passage_at B (hands_up a b response_octets))
+
+  first_number : (n : ℕ) → (Some 1 ≡ Some n) ↔ IsJudgedAs 1 n first_arrival
+  first_number n = (
+    λ is. subst (λ (k : ℕ). IsJudgedAs 1 k first_arrival) (some_is 1 n is) (record {
+      reception = record { packet = carried_octets; outcome = traffic.Up 1 1 worked_payload };
+      received = refl;
+      takes = first_judges.takes;
+    }),
+    λ judges.
+        let one : n ≡ 1 =
+        number_is_one 512 256 (omega arith) asking_key answering_key answering_table judges.reception.packet 1 n later_table
+        (packet_came (record { packet = carried_octets; outcome = traffic.Up 1 1 worked_payload }) judges.reception first_arrival refl judges.received) judges.takes in
+        ap (λ (k : ℕ). Some k) (sym one),
+  )
+
+  abbrev second_arrival : tables.Passage
+  second_arrival = table_passage (passage_at B comes_again)
+
+  no_second_number : (n : ℕ) → ¬ IsJudgedAs 1 n second_arrival
+  no_second_number n judges =
+      is_not_taken 512 256 (omega arith) asking_key answering_key later_table judges.reception.packet 1 n later_table
+      (packet_came (record { packet = carried_octets; outcome = traffic.Dropped (Esp Replayed) }) judges.reception second_arrival refl judges.received) judges.takes
+
+  numbers_are : AreNumbersOf 1 arrivals numbers_of_it
+  numbers_are =
+      are_numbers 1 arrivals numbers_of_it (
+        nothing_came 1 (table_passage (passage_at B (answers a b))) refl,
+        (
+          nothing_came 1 (table_passage (passage_at B (accepts a b response_octets))) refl,
+          (
+            first_number,
+            (nothing_came 1 (table_passage (passage_at B (is_there a b response_octets))) refl, (none_judged 1 second_arrival no_second_number, tt)),
+          ),
+        ),
+      )
+
+  is_unforged : (numbers : List (Option ℕ)) → Unforged 1 arrivals numbers (sent_to_it carried_octets)
+  is_unforged numbers = record {
     whole = λ n packet sent.
         subst (λ (o : Octets). IsJudgedLength (length o)) (sym (only_there map.empty refl 1 carried_octets n packet sent).content)
         (judged 512 256 (omega arith) asking_key answering_key).whole;
@@ -218,21 +260,22 @@ module _ {C : Type 0} (a b : C) where
         let step = of_one place p here in
         let association : pair.inbound.association ≡ by = step.association pair comes.stands in
         let same : packet ≡ carried_octets = comes.packet_is ∙ step.comes comes.reception comes.received in
-        let plain : IsNumber false (seen_before 1 pair arrivals taken place) (low_half packet) n =
-        subst (λ (s : esp.Sa). IsNumber s.extended (seen_before 1 pair arrivals taken place) (low_half packet) n) association number in
+        let plain : IsNumber false (seen_before 1 pair arrivals numbers place) (low_half packet) n =
+        subst (λ (s : esp.Sa). IsNumber s.extended (seen_before 1 pair arrivals numbers place) (low_half packet) n) association number in
         let number_is : n ≡ 1 = plain.0 ∙ ap low_half same ∙ low_half_is 512 256 (omega arith) asking_key answering_key in
         put_there map.empty 1 n carried_octets number_is ∙ ap (λ (o : Octets). Some o) (sym same);
   }
 
-  pub second_delivery_is : SoundnessStays → NoSpiIsLost → IsRunWithSecondDelivery a b
-  second_delivery_is stays lost = record {
+  pub replay_is : SoundnessStays → NoSpiIsLost → IsRunWithReplay a b
+  replay_is stays lost = record {
     exchanged = exchanged;
-    happenings = delivery_steps;
+    happenings = replay_steps;
     last = last;
     takes = refl;
     says = refl;
-    trail = delivery_run_is stays lost;
-    unforged = λ taken are. is_unforged taken;
+    trail = replay_run_is stays lost;
+    numbers = numbers_are;
+    unforged = is_unforged numbers_of_it;
     first = passage_at B (hands_up a b response_octets);
     first_there = refl;
     judges = first_judges;

@@ -1,7 +1,0 @@
-use Rattle.laws_worked.proofs.RecoveryLemmas.{recovery_is}
-use Rattle.laws_worked.proofs.laws.a_lost_request_is_recovered_from_new_gateways_on.Goals as goal
-
-pub returns : goal.returns
-returns g c =
-    λ a b.
-    recovery_is a b (record { stays = c.soundness_stays.ensures; lost = c.no_spi_is_lost.ensures.stepped; timely = c.what_is_due_comes_in_time.ensures.timely })

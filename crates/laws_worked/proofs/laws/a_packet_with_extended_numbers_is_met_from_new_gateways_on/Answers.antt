@@ -1,7 +1,0 @@
-use Rattle.laws_worked.proofs.ExtendedRunLemmas.{extended_is}
-use Rattle.laws_worked.proofs.laws.a_packet_with_extended_numbers_is_met_from_new_gateways_on.Goals as goal
-
-pub returns : goal.returns
-returns g c =
-    λ a b.
-    extended_is a b (record { stays = c.soundness_stays.ensures; lost = c.no_spi_is_lost.ensures.stepped; timely = c.what_is_due_comes_in_time.ensures.timely })
