@@ -1,5 +1,5 @@
 //! IPv4 packets (RFC 791 section 3.1).
-ghost use Rattle.std.specs.Prelude.{◌≡◌, ◌≤◌, IsTrue, ◌↔◌, IfOk, IfErr, MatchOption, ◌+◌, length, drop};
+ghost use Rattle.std.specs.Prelude.{◌≡◌, ◌≤◌, IsTrue, ◌↔◌, OnOk, IfErr, MatchOption, ◌+◌, length, drop};
 ghost use Rattle.byteorder.specs.Endian.{big_number};
 ghost use Rattle.policy.specs.Packets.{IsFragment, IsIpv4Flow, IsIpv4Packet, IsIpv4Refusal, ipv4_content, version_of};
 
@@ -18,10 +18,11 @@ const HEADER_LEAST: usize = 20;
 // The bit in octets 6 and 7 that tells of more fragments; below it stands the fragment offset.
 const MORE_FRAGMENTS: u16 = 1 << 13;
 
-// The flow of a packet that says it is of version 4.
-pub(crate) fn flow_of(octets: &[u8]) -> Result<Flow, InnerFault>
+// Reads the flow of a packet that says it is of version 4.
+#[inline(always)]
+pub(crate) fn read_flow(octets: &[u8], flow: &mut Flow) -> Result<(), InnerFault>
     requires { version_of octets.now ≡ 4 }
-    ensures flow { IfOk result (IsIpv4Flow octets.now) }
+    ensures flow { OnOk result (IsIpv4Flow octets.now flow.new) }
     ensures refused { IfErr result (IsIpv4Refusal octets.now) }
 {
     let Some(content) = content_of(octets) else {
@@ -31,12 +32,11 @@ pub(crate) fn flow_of(octets: &[u8]) -> Result<Flow, InnerFault>
         return Err(InnerFault::Fragment);
     }
     let protocol = octets[9];
-    Ok(Flow {
-        protocol,
-        source: Address::V4(address_at(octets, 12)),
-        target: Address::V4(address_at(octets, 16)),
-        ports: ports_of(protocol, content)?,
-    })
+    flow.ports = ports_of(protocol, content)?;
+    flow.protocol = protocol;
+    flow.source = Address::V4(address_at(octets, 12));
+    flow.target = Address::V4(address_at(octets, 16));
+    Ok(())
 }
 
 // What follows the header of a packet.

@@ -1,5 +1,5 @@
 //! IPv6 packets (RFC 8200 section 3).
-ghost use Rattle.std.specs.Prelude.{◌≡◌, ◌≤◌, IsTrue, ◌↔◌, IfOk, IfErr, MatchOption, ◌+◌, length, drop};
+ghost use Rattle.std.specs.Prelude.{◌≡◌, ◌≤◌, IsTrue, ◌↔◌, OnOk, IfErr, MatchOption, ◌+◌, length, drop};
 ghost use Rattle.byteorder.specs.Endian.{big_number};
 ghost use Rattle.policy.specs.Packets.{IsExtensionHeader, IsIpv6Flow, IsIpv6Packet, IsIpv6Refusal, ipv6_content, version_of};
 
@@ -26,10 +26,11 @@ const AUTHENTICATION: u8 = 51;
 
 const DESTINATION_OPTIONS: u8 = 60;
 
-// The flow of a packet that says it is of version 6.
-pub(crate) fn flow_of(octets: &[u8]) -> Result<Flow, InnerFault>
+// Reads the flow of a packet that says it is of version 6.
+#[inline(always)]
+pub(crate) fn read_flow(octets: &[u8], flow: &mut Flow) -> Result<(), InnerFault>
     requires { version_of octets.now ≡ 6 }
-    ensures flow { IfOk result (IsIpv6Flow octets.now) }
+    ensures flow { OnOk result (IsIpv6Flow octets.now flow.new) }
     ensures refused { IfErr result (IsIpv6Refusal octets.now) }
 {
     let Some(content) = content_of(octets) else {
@@ -39,12 +40,11 @@ pub(crate) fn flow_of(octets: &[u8]) -> Result<Flow, InnerFault>
     if is_extension_header(next_header) {
         return Err(InnerFault::ExtensionHeader);
     }
-    Ok(Flow {
-        protocol: next_header,
-        source: Address::V6(address_at(octets, 8)),
-        target: Address::V6(address_at(octets, 24)),
-        ports: ports_of(next_header, content)?,
-    })
+    flow.ports = ports_of(next_header, content)?;
+    flow.protocol = next_header;
+    flow.source = Address::V6(address_at(octets, 8));
+    flow.target = Address::V6(address_at(octets, 24));
+    Ok(())
 }
 
 // What follows the header of a packet.

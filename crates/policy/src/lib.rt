@@ -6,10 +6,10 @@
 //! types, mobility header types and OPAQUE ports are not understood, a limit of this implementation. A list
 //! of selectors is the union of its members. No selector holds points of both families.
 //!
-//! [`inner`] finds the [`Flow`] of an IP packet, [`family_of_packet`] the family that its version names,
-//! [`Policy::decide`] what is done with a flow, [`covers`] whether selectors hold it, [`narrow`] what an
-//! offer becomes under a policy, and [`are_inside`] whether an answer keeps to its offer. Only [`narrow`]
-//! takes memory. [`laws`] has facts about these answers.
+//! [`inner`] finds the [`Flow`] of an IP packet, and [`read_inner`] writes it where its caller reads it.
+//! [`family_of_packet`] finds the family that its version names, [`Policy::decide`] what is done with a flow,
+//! [`covers`] whether selectors hold it, [`narrow`] what an offer becomes under a policy, and [`are_inside`]
+//! whether an answer keeps to its offer. Only [`narrow`] takes memory. [`laws`] has facts about these answers.
 //!
 //! The sets stand in `specs/Points`, decisions in `specs/Decisions`, the responder's choice in
 //! `specs/Narrowing`, and the layout of packets in `specs/Packets`.
@@ -64,7 +64,7 @@ pub use fault::{InnerFault, NarrowFault, PolicyFault};
 pub use flow::{Flow, Ports};
 pub use narrowing::{Narrowed, narrow};
 pub use offer::are_inside;
-pub use packet::{family_of_packet, inner};
+pub use packet::{family_of_packet, inner, no_flow, read_inner};
 pub use point::Point;
 pub use policy::{Decision, Direction, Policy};
 pub use selectors::covers;

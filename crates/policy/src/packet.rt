@@ -1,5 +1,5 @@
 //! The flow of a packet: the rules of either version of IP, and the ports that both have in common.
-ghost use Rattle.std.specs.Prelude.{◌≡◌, ◌≤◌, IfOk, IfErr, length};
+ghost use Rattle.std.specs.Prelude.{◌≡◌, ◌≤◌, IfOk, IfErr, OnOk, length};
 ghost use Rattle.base.specs.Addresses.{family_of};
 ghost use Rattle.policy.specs.declared.fault.InnerFault.TheVariants.{BadInner};
 ghost use Rattle.policy.specs.Packets.{family_of_packet, ArePorts, IsFlowOf, IsInnerRefusal, LacksPorts};
@@ -8,7 +8,7 @@ use crate::fault::InnerFault;
 use crate::flow::{Flow, Ports};
 use crate::point::has_ports;
 use crate::{ipv4, ipv6};
-use base::Family;
+use base::{Address, Family};
 use byteorder::{BigEndian, ByteOrder};
 
 // The longest packet, in octets, a limit of this implementation.
@@ -30,12 +30,39 @@ pub fn inner(octets: &[u8]) -> Result<Flow, InnerFault>
     ensures one_family { IfOk result (λ f. family_of f.source ≡ family_of f.target) }
     ensures refused { IfErr result (IsInnerRefusal octets.now) }
 {
+    let mut flow = no_flow();
+    read_inner(octets, &mut flow)?;
+    Ok(flow)
+}
+
+/// A flow between no addresses, for [`read_inner`] to write into.
+#[inline(always)]
+pub fn no_flow() -> Flow {
+    Flow {
+        protocol: 0,
+        source: Address::V4(0),
+        target: Address::V4(0),
+        ports: None,
+    }
+}
+
+/// Reads the flow of a packet as [`inner`] does, into a place of the caller's. Refused as that is; what stands
+/// in the place then is no flow of the packet.
+///
+/// So a flow is written once, where it is read. An answer of so many octets would be copied by wide loads
+/// right behind narrow stores, which takes longer than all the reading.
+#[inline(always)]
+pub fn read_inner(octets: &[u8], flow: &mut Flow) -> Result<(), InnerFault>
+    ensures flow { OnOk result (IsFlowOf octets.now flow.new) }
+    ensures one_family { OnOk result (family_of flow.new.source ≡ family_of flow.new.target) }
+    ensures refused { IfErr result (IsInnerRefusal octets.now) }
+{
     if octets.is_empty() {
         return Err(InnerFault::BadInner);
     }
     match octets[0] / 16 {
-        ipv4::VERSION => ipv4::flow_of(octets),
-        ipv6::VERSION => ipv6::flow_of(octets),
+        ipv4::VERSION => ipv4::read_flow(octets, flow),
+        ipv6::VERSION => ipv6::read_flow(octets, flow),
         _ => Err(InnerFault::BadInner),
     }
 }

@@ -20,7 +20,7 @@ use esp::EspFault;
 use flows::laws::{answers_stay_right, no_pair_comes};
 use flows::{FlowMemory, Treatment, look_up};
 use policy::laws::flows_are_determined;
-use policy::{Flow, Policy, inner};
+use policy::{Flow, Policy, inner, no_flow, read_inner};
 use sadb::Table;
 use std::alloc::{AllocError, Global};
 
@@ -175,13 +175,13 @@ pub fn lay_behind<'a>(
     answers_stay_right();
     no_pair_comes();
     flows_are_determined();
-    // By reference: a flow is long, and copied right after it was written it would be waited for.
-    match &inner(packet) {
-        Ok(flow) => {
-            let treatment = flows.treatment(table, policy, flow);
-            depart(table, treatment, flow, packet, out)
+    let mut flow = no_flow();
+    match read_inner(packet, &mut flow) {
+        Ok(()) => {
+            let treatment = flows.treatment(table, policy, &flow);
+            depart(table, treatment, &flow, packet, out)
         }
-        Err(fault) => Ok(Laid::Dropped(PacketFault::Inner(*fault))),
+        Err(fault) => Ok(Laid::Dropped(PacketFault::Inner(fault))),
     }
 }
 

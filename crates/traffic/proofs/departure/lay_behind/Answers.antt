@@ -1,12 +1,10 @@
-use Rattle.std.specs.Prelude.{◌≡◌, refl, IfOk, Result}
+use Rattle.std.specs.Prelude.{◌≡◌}
 use Rattle.std.proofs.Common.{subst}
 use Rattle.flows.specs.Memory.{HoldsTreatmentOf}
 use Rattle.flows.specs.Staying.{NoneComes}
 use Rattle.flows.specs.Treatments.{action_of}
 use Rattle.policy.specs.declared.entry.Action.TheVariants.{Protect}
-use Rattle.policy.specs.declared.fault.InnerFault.{InnerFault}
 use Rattle.policy.specs.declared.flow.Flow.{Flow}
-use Rattle.policy.specs.Packets.{IsFlowOf}
 use Rattle.sadb.specs.Database.{Database}
 use Rattle.traffic.specs.Sending.{HasUnspentCarrier}
 use Rattle.traffic.proofs.FollowingLemmas.{Keeps}
@@ -15,7 +13,7 @@ use Rattle.traffic.proofs.departure.lay_behind.Goals as goal
 
 pub returns-in-Ok-clause-sent : goal.returns-in-Ok-clause-sent
 returns-in-Ok-clause-sent c =
-    departs_behind c.args.table.now c.args.policy.now c.treatment-treatment.result c.in-Ok.flow c.args.packet.now c.args.out.now.items c.depart.result c.depart.new.table c.depart.new.out.items (subst (λ (r : Result Flow InnerFault). IfOk r (IsFlowOf c.args.packet.now)) c.in-Ok.is c.inner.ensures.flow)
+    departs_behind c.args.table.now c.args.policy.now c.treatment-treatment.result c.read_inner.new.flow c.args.packet.now c.args.out.now.items c.depart.result c.depart.new.table c.depart.new.out.items c.in-Ok.ensures.flow
     c.treatment-treatment.ensures.right.decision c.depart.ensures.sent
 
 pub returns-in-Ok-clause-right : goal.returns-in-Ok-clause-right
@@ -27,15 +25,15 @@ returns-in-Ok-clause-right c =
       sealing = c.no_pair_comes.ensures.sealing;
     } in
     c.answers_stay_right.ensures.stay c.args.policy.now c.args.table.now.pairs c.depart.new.table.pairs c.treatment-treatment.new.self
-    (sent_behind (λ (a b : Database). NoneComes a.pairs b.pairs) keeps (action_of c.treatment-treatment.result ≡ Protect) (HasUnspentCarrier c.args.table.now c.in-Ok.flow) (c.depart.new.out.items ≡ c.args.out.now.items)
+    (sent_behind (λ (a b : Database). NoneComes a.pairs b.pairs) keeps (action_of c.treatment-treatment.result ≡ Protect) (HasUnspentCarrier c.args.table.now c.read_inner.new.flow) (c.depart.new.out.items ≡ c.args.out.now.items)
     c.args.table.now c.args.policy.now c.args.packet.now c.args.out.now.items c.depart.result c.depart.new.table c.depart.new.out.items (returns-in-Ok-clause-sent c) c.depart.ensures.memory)
     c.treatment-treatment.ensures.all_right
 
 pub returns-in-Ok-clause-held : goal.returns-in-Ok-clause-held
 returns-in-Ok-clause-held c = λ flow flow_is some.
     subst (λ (f : Flow). HoldsTreatmentOf c.args.policy.now c.args.table.now.pairs c.treatment-treatment.new.self f)
-    (c.flows_are_determined.ensures.flow c.args.packet.now c.in-Ok.flow flow (subst (λ (r : Result Flow InnerFault). IfOk r (IsFlowOf c.args.packet.now)) c.in-Ok.is c.inner.ensures.flow) flow_is)
+    (c.flows_are_determined.ensures.flow c.args.packet.now c.read_inner.new.flow flow c.in-Ok.ensures.flow flow_is)
     (record { treatment = c.treatment-treatment.result; found = c.treatment-treatment.ensures.right; held = c.treatment-treatment.ensures.held some })
 
 pub returns-in-Ok-clause-unread : goal.returns-in-Ok-clause-unread
-returns-in-Ok-clause-unread c = λ fault refused. absurd (c.flows_are_determined.ensures.apart c.args.packet.now c.in-Ok.flow fault (subst (λ (r : Result Flow InnerFault). IfOk r (IsFlowOf c.args.packet.now)) c.in-Ok.is c.inner.ensures.flow) refused)
+returns-in-Ok-clause-unread c = λ fault refused. absurd (c.flows_are_determined.ensures.apart c.args.packet.now c.read_inner.new.flow fault c.in-Ok.ensures.flow refused)

@@ -4,7 +4,7 @@ use Rattle.traffic.proofs.verdict.judge.Goals as goal
 
 pub returns-else-covers : goal.returns-else-covers
 returns-else-covers c = record {
-  flow = c.in_ok-flow.flow;
+  flow = c.read_inner.new.flow;
   packet = record {
     named = record {
       family = c.in_ok-family.family;
