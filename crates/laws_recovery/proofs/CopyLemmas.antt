@@ -22,7 +22,7 @@ use Rattle.gateway.specs.Histories.{IsPassage, IsTrail, Passage}
 use Rattle.gateway.specs.Outputs as output
 use Rattle.gateway.specs.Outputs.{wants_memory, Repeat}
 use Rattle.gateway.specs.Requests.{AnswersBy, OnlySays, TakesEffect}
-use Rattle.gateway.proofs.AskedLemmas.{sound_at}
+use Rattle.laws_recovery.proofs.HeldLemmas.{sound_at}
 use Rattle.laws_recovery.specs.Copies.{AreEndsOfOne, ArrivesAt, WaitsUntil}
 use Rattle.laws_recovery.specs.Waiting.{times_again}
 use Rattle.laws_recovery.proofs.AskingLemmas.{not_initial, opens_there, sends, Sends}

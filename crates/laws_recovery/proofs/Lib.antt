@@ -1,3 +1,4 @@
+mod HeldLemmas
 mod WaitingLemmas
 mod CountingLemmas
 mod BeginningLemmas

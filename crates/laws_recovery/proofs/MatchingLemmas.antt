@@ -47,7 +47,7 @@ use Rattle.gateway.specs.States.{association_in}
 use Rattle.gateway.specs.Steps.{DoesInput, StepsIke}
 use Rattle.gateway.specs.Worlds.{IsFreshlyGiven}
 use Rattle.gateway.specs.declared.fault.Reason.TheVariants as reason
-use Rattle.gateway.proofs.AskedLemmas.{sound_at}
+use Rattle.laws_recovery.proofs.HeldLemmas.{sound_at}
 use Rattle.laws_recovery.specs.Copies.{AreEndsOfOne, ArrivesAt, IsMatched, WaitsUntil}
 use Rattle.laws_recovery.specs.Waiting.{WaitsBefore}
 use Rattle.laws_recovery.proofs.AskingLemmas.{back_again, from_other, not_initial}
