@@ -1,11 +1,16 @@
 #!/bin/bash
-# Tries the bindings against a library that tools/library.sh laid below a prefix.
+# Tries the bindings against a library that tools/library.sh laid below a prefix, or lays it there first.
 #
 #     tools/bindings_test.sh PREFIX
+#     tools/bindings_test.sh --build PREFIX      proves, builds and lays the library, then tries the bindings
 #
 # The last line is 'N passed, M failed, K skipped', and the status 0 where nothing failed. SEEDS and CALLS set how long the calls in any
 # order go on (5 seeds of 3000 calls; 100 of 30000 take some minutes).
 set -u
+if test "${1:-}" = --build; then
+    shift
+    "$(dirname "$0")/library.sh" "${1:?bindings_test.sh: a prefix is wanted, as /usr/local}" || exit 1
+fi
 prefix=$(cd "${1:?bindings_test.sh: the prefix of a library is wanted}" && pwd) || exit 2
 top=$(cd "$(dirname "$0")/.." && pwd)
 work=$(mktemp -d)

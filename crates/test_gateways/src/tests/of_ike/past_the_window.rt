@@ -7,7 +7,7 @@ use caller_script::ScriptCaller;
 use exchange::{Role, open_message};
 use gateway::End;
 use ike::IkeOutput;
-use sadb::Table;
+use sadb::{State, Table};
 use std::alloc::Global;
 use std::panic::Expect;
 use std::process::Abort;
@@ -59,9 +59,24 @@ fn is_answered_so(rt: &impl Abort, alloc: Global, b: &mut Side, number: u32) {
     same(rt, found.as_slice(), wanted.as_slice());
 }
 
-/// What can be seen of an end without a message: how many IKE SAs it holds, and its next moment.
-fn seen(b: &Side) -> (usize, Option<u64>) {
-    (b.ike.associations().len(), b.ike.next_moment())
+/// What can be seen of an end without a message: how many IKE SAs it holds, its next moment, and its first pair
+/// with the pair behind that.
+fn seen(b: &Side) -> (usize, Option<u64>, [Option<(u32, State)>; 2]) {
+    let first = pair_behind(b, 0);
+    let second = match first {
+        Some((serial, _)) => pair_behind(b, serial),
+        None => None,
+    };
+    (
+        b.ike.associations().len(),
+        b.ike.next_moment(),
+        [first, second],
+    )
+}
+
+fn pair_behind(b: &Side, serial: u32) -> Option<(u32, State)> {
+    let pair = b.table.after(serial)?;
+    Some((pair.serial, pair.state))
 }
 
 /// Number 5 comes where 4 is expected: its octets open, are refused, and are answered once 4 was.
