@@ -217,6 +217,11 @@ pub pair_protected : LieInPolicies → (setting : Setting) (extended : Bool) (en
 pair_protected inside setting extended entries table offer made m =
     subst (λ (x : Made). LieInsidePolicy entries x.pair.remote x.pair.local) (sym m.whole) (inside entries offer.ts_i offer.ts_r m.terms.ts_i m.terms.ts_r m.due.narrowed)
 
+pub pair_narrowed : (setting : Setting) (extended : Bool) (entries : List Entry) (table : Database) (offer : ChildPayloads) (made : Made) → IsMadeChild setting extended entries table offer made
+    → IsNarrowing entries offer.ts_i offer.ts_r made.pair.remote made.pair.local
+pair_narrowed setting extended entries table offer made m =
+    subst (λ (x : Made). IsNarrowing entries offer.ts_i offer.ts_r x.pair.remote x.pair.local) (sym m.whole) m.due.narrowed
+
 abbrev pub AreTaken : Type 0
 AreTaken = (wanted : Wanted) (proposals : List Proposal) (chosen : Chosen) (spi : List ℕ) → IsChosenProposal wanted proposals chosen → IsTakenFrom proposals chosen.place (answer_of wanted chosen spi)
 

@@ -12,7 +12,7 @@ ghost use Rattle.wire.specs.declared.proposal.Proposal.{Proposal};
 ghost use Rattle.exchange.specs.Counting.{only_sa};
 ghost use Rattle.exchange.specs.declared.child.ChildPayloads.{ChildPayloads};
 ghost use Rattle.exchange.specs.declared.headers.Role.TheVariants.{Initiator, Responder};
-ghost use Rattle.policy.specs.Narrowing.{AnswersOffer, IsSendableSelector, LieInsidePolicy};
+ghost use Rattle.policy.specs.Narrowing.{AnswersOffer, IsNarrowing, IsSendableSelector, LieInsidePolicy};
 ghost use Rattle.policy.specs.declared.entry.Entry.{Entry};
 ghost use Rattle.sadb.specs.Contents.{table_content};
 ghost use Rattle.sadb.specs.Database.{Database};
@@ -71,9 +71,9 @@ pub fn responses_are_acceptable()
 }
 
 /// What is made keeps to its offer and to the policy (RFC 7296, sections 2.7 and 2.9): the selectors lie
-/// inside those offered, and inside one entry that protects; ESN is used only where that is allowed; the
-/// answer's proposal has number and protocol of one that was offered, and takes its transforms from it. Does
-/// nothing.
+/// inside those offered, and inside one entry that protects, and are what the offer is narrowed to; ESN is
+/// used only where that is allowed; the answer's proposal has number and protocol of one that was offered,
+/// and takes its transforms from it. Does nothing.
 pub fn responses_keep_to_their_offers()
     ensures offer { (setting : Setting) (extended : Bool) (entries : List Entry) (table : Database)
         (offer : ChildPayloads) (made : Made)
@@ -83,6 +83,10 @@ pub fn responses_keep_to_their_offers()
         (offer : ChildPayloads) (made : Made)
         → IsMadeChild setting extended entries table offer made
         → LieInsidePolicy entries made.pair.remote made.pair.local }
+    ensures narrowed { (setting : Setting) (extended : Bool) (entries : List Entry) (table : Database)
+        (offer : ChildPayloads) (made : Made)
+        → IsMadeChild setting extended entries table offer made
+        → IsNarrowing entries offer.ts_i offer.ts_r made.pair.remote made.pair.local }
     ensures extension { (setting : Setting) (extended : Bool) (entries : List Entry) (table : Database)
         (offer : ChildPayloads) (made : Made)
         → IsMadeChild setting extended entries table offer made

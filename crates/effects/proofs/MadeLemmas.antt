@@ -23,7 +23,7 @@ use Rattle.exchange.specs.declared.child.ChildPayloads.{ChildPayloads}
 use Rattle.exchange.specs.declared.headers.Role.{Role}
 use Rattle.exchange.specs.declared.headers.Role.TheVariants.{Initiator, Responder}
 use Rattle.exchange.specs.declared.sealed.Plain.{Plain}
-use Rattle.policy.specs.Narrowing.{AnswersOffer, LieInsidePolicy}
+use Rattle.policy.specs.Narrowing.{AnswersOffer, IsNarrowing, LieInsidePolicy}
 use Rattle.policy.specs.declared.entry.Entry.{Entry}
 use Rattle.requests.specs.Outgoing.{number_0_answered, OwnRequests}
 use Rattle.sadb.specs.Database.{pair_at, Database, Installs, IsReserved, IsSoundTable}
@@ -107,6 +107,8 @@ pub record ChildFacts : Type 0 where
       → IsMadeChild setting extended entries table offer made → AnswersOffer made.pair.remote offer.ts_i × AnswersOffer made.pair.local offer.ts_r
   pub policy : (setting : Setting) (extended : Bool) (entries : List Entry) (table : Database) (offer : ChildPayloads) (made : Made)
       → IsMadeChild setting extended entries table offer made → LieInsidePolicy entries made.pair.remote made.pair.local
+  pub narrowed : (setting : Setting) (extended : Bool) (entries : List Entry) (table : Database) (offer : ChildPayloads) (made : Made)
+      → IsMadeChild setting extended entries table offer made → IsNarrowing entries offer.ts_i offer.ts_r made.pair.remote made.pair.local
   pub extension : (setting : Setting) (extended : Bool) (entries : List Entry) (table : Database) (offer : ChildPayloads) (made : Made)
       → IsMadeChild setting extended entries table offer made → made.pair.inbound.association.extended ≡ true → extended ≡ true
   pub few_made : (setting : Setting) (extended : Bool) (entries : List Entry) (table : Database) (offer : ChildPayloads) (made : Made)
@@ -131,6 +133,9 @@ pub record FurtherFacts : Type 0 where
       → AnswersOffer made.pair.remote ts_i × AnswersOffer made.pair.local ts_r
   pub policy : (setup : Setup) (ike : ℕ) (keys : KeyRecord) (table : Database) (deleting : Bool) (plain : Plain) (made : Made)
       → DecidesFurther setup ike keys table deleting plain (decided.Made made) → LieInsidePolicy setup.entries made.pair.remote made.pair.local
+  pub narrowed : (setup : Setup) (ike : ℕ) (keys : KeyRecord) (table : Database) (deleting : Bool) (plain : Plain) (made : Made) (request : List Payload) (ts_i ts_r : List Selector)
+      → DecidesFurther setup ike keys table deleting plain (decided.Made made) → SpellsChain plain.first request plain.octets → only_ts_i request ≡ Some ts_i → only_ts_r request ≡ Some ts_r
+      → IsNarrowing setup.entries ts_i ts_r made.pair.remote made.pair.local
   pub extension : (setup : Setup) (ike : ℕ) (keys : KeyRecord) (table : Database) (deleting : Bool) (plain : Plain) (made : Made)
       → DecidesFurther setup ike keys table deleting plain (decided.Made made) → made.pair.inbound.association.extended ≡ true → setup.config.extended ≡ true
   pub asked : (blocks ike : ℕ) (keys : KeyRecord) (asked : Asked) (own_nonce : Octets) (plain : Plain) (pair : Pair)
@@ -279,6 +284,7 @@ answered_child facts own_method proof_of accepts setup ike opened table plain d 
       remote = lie.0;
       local = lie.1;
       protected = facts.policy setting setup.config.extended setup.entries table asked.child is.made child;
+      narrowed = facts.narrowed setting setup.config.extended setup.entries table asked.child is.made child;
       extension = facts.extension setting setup.config.extended setup.entries table asked.child is.made child;
       few = record { local = few.local; remote = few.remote };
     } in
@@ -470,6 +476,7 @@ further_replied_makes facts laws meaning setup old table octets m answered seria
       remote = lie.0;
       local = lie.1;
       protected = laws.policy setup old.serial d.keys table d.deleting is.plain by.made made;
+      narrowed = laws.narrowed setup old.serial d.keys table d.deleting is.plain by.made asks.request asks.view.child.ts_i asks.view.child.ts_r made asks.read asks.asks.ts_i asks.asks.ts_r;
       extension = laws.extension setup old.serial d.keys table d.deleting is.plain by.made made;
       few = record { local = few.local; remote = few.remote };
     } in

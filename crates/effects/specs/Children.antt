@@ -17,7 +17,7 @@ use Rattle.exchange.specs.declared.child.ChildPayloads.{ChildPayloads}
 use Rattle.exchange.specs.declared.headers.Role.{Role}
 use Rattle.exchange.specs.declared.headers.Role.TheVariants.{Initiator, Responder}
 use Rattle.exchange.specs.declared.sealed.Plain.{Plain}
-use Rattle.policy.specs.Narrowing.{AnswersOffer, LieInsidePolicy}
+use Rattle.policy.specs.Narrowing.{AnswersOffer, IsNarrowing, LieInsidePolicy}
 use Rattle.sadb.specs.Database.{pair_at, Database}
 use Rattle.sadb.specs.declared.pair.Pair.{Pair}
 use Rattle.association.specs.AskedChildren.{asked_of, AskedChildView}
@@ -68,8 +68,8 @@ pub record BringsChild (ike serial : ℕ) (table : Database) (keys : KeyRecord) 
   pub alone : (other : ℕ) (pair : Pair) → pair_at new_table.pairs other ≡ Some pair → (pair_at table.pairs other ≡ Some pair) ⊎ (other ≡ serial)
 
 -- The responder's SA pair of a Child SA. It is made of the request and of its response under the IKE SA's
--- keys. Its selectors are few, and lie inside those offered and inside one entry that protects. It has ESN
--- only where that is allowed.
+-- keys. Its selectors are few, and lie inside those offered and inside one entry that protects: they are what
+-- the policy narrows the offer to. It has ESN only where that is allowed.
 pub record IsAnsweredChild (kind : ChildKind) (setup : Setup) (keys : KeyRecord) (request reply : List Payload) (pair : Pair) : Type 0 where
   pub child : IsChildOf kind Responder keys request reply pair
   pub offer : ChildPayloads
@@ -77,6 +77,7 @@ pub record IsAnsweredChild (kind : ChildKind) (setup : Setup) (keys : KeyRecord)
   pub remote : AnswersOffer pair.remote offer.ts_i
   pub local : AnswersOffer pair.local offer.ts_r
   pub protected : LieInsidePolicy setup.entries pair.remote pair.local
+  pub narrowed : IsNarrowing setup.entries offer.ts_i offer.ts_r pair.remote pair.local
   pub extension : pair.inbound.association.extended ≡ true → setup.config.extended ≡ true
   pub few : HasFewSelectors pair
 

@@ -85,6 +85,8 @@ impl FlowMemory {
         ensures all_right { AllRight policy.now table.now.pairs self.new }
         // Where there are places, it is remembered.
         ensures held { 0 < length self.new → Holds self.new (record { flow = flow.now; treatment = result }) }
+        // Places that were made stay.
+        ensures kept { 0 < length self.old → 0 < length self.new }
     {
         let place = place_of(flow);
         if let Some(treatment) = self.recall(place, flow) {
@@ -122,6 +124,7 @@ impl FlowMemory {
     fn make_places(&mut self)
         ensures no_more { HoldsNoMore self.old self.new }
         ensures made { HasItsPlaces self.new }
+        ensures kept { 0 < length self.old → 0 < length self.new }
     {
         if self.places.is_empty() {
             let _ = self.places.resize(PLACES, None);

@@ -16,7 +16,13 @@ pub(crate) fn place_of(flow: &Flow) -> usize
     ensures { result < 4096 }
 {
     let start = scatter(0, u64::from(flow.protocol) << 32 | ports_word(flow.ports));
-    let mixed = mix(mix(start, flow.source), flow.target);
+    let mixed = match (flow.source, flow.target) {
+        // In one word, since each multiplication waits for the one before it.
+        (Address::V4(source), Address::V4(target)) => {
+            start ^ (u64::from(source) << 32 | u64::from(target))
+        }
+        (source, target) => mix(mix(start, source), target),
+    };
     // The top bits of a product are those that all of its bits change.
     (mixed.wrapping_mul(SCATTER) >> 52) as usize
 }

@@ -10,7 +10,7 @@ use Rattle.suite.specs.declared.key_record.KeyRecord.{KeyRecord}
 use Rattle.exchange.specs.Counting.{only_sa, only_ts_i, only_ts_r}
 use Rattle.exchange.specs.declared.child.ChildPayloads.{ChildPayloads}
 use Rattle.exchange.specs.declared.sealed.Plain.{Plain}
-use Rattle.policy.specs.Narrowing.{AnswersOffer, LieInsidePolicy}
+use Rattle.policy.specs.Narrowing.{AnswersOffer, IsNarrowing, LieInsidePolicy}
 use Rattle.policy.specs.declared.entry.Entry.{Entry}
 use Rattle.sadb.specs.Database.{Database}
 use Rattle.sadb.specs.declared.pair.Pair.{Pair}
@@ -36,6 +36,10 @@ abbrev pub AnswersIts : Type 0
 AnswersIts = (setting : Setting) (extended : Bool) (entries : List Entry) (table : Database) (offer : ChildPayloads) (made : Made)
     → IsMadeChild setting extended entries table offer made → AnswersOffer made.pair.remote offer.ts_i × AnswersOffer made.pair.local offer.ts_r
 
+abbrev pub NarrowsIts : Type 0
+NarrowsIts = (setting : Setting) (extended : Bool) (entries : List Entry) (table : Database) (offer : ChildPayloads) (made : Made)
+    → IsMadeChild setting extended entries table offer made → IsNarrowing entries offer.ts_i offer.ts_r made.pair.remote made.pair.local
+
 abbrev pub ObeysPolicy : Type 0
 ObeysPolicy = (setting : Setting) (extended : Bool) (entries : List Entry) (table : Database) (offer : ChildPayloads) (made : Made)
     → IsMadeChild setting extended entries table offer made → LieInsidePolicy entries made.pair.remote made.pair.local
@@ -57,6 +61,16 @@ module _ (setup : Setup) (ike : ℕ) (keys : KeyRecord) (table : Database) (dele
       let same_i : m.request.child.ts_i ≡ ts_i = same_Some m.request.child.ts_i ts_i (sym m.asks.ts_i ∙ there_i) in
       let same_r : m.request.child.ts_r ≡ ts_r = same_Some m.request.child.ts_r ts_r (sym m.asks.ts_r ∙ there_r) in
       (subst (λ (s : List Selector). AnswersOffer made.pair.remote s) same_i kept.0, subst (λ (s : List Selector). AnswersOffer made.pair.local s) same_r kept.1)
+
+  pub offer_narrowed : NarrowsIts → (ts_i ts_r : List Selector) → DecidesFurtherOn setup ike keys table deleting payloads (decision.Made made)
+      → only_ts_i payloads ≡ Some ts_i → only_ts_r payloads ≡ Some ts_r → IsNarrowing setup.entries ts_i ts_r made.pair.remote made.pair.local
+  offer_narrowed law ts_i ts_r is there_i there_r =
+      let m : MakesFurther setup ike keys table deleting payloads made = made_on setup ike keys table deleting payloads made is in
+      let narrowed = law (responder_setting setup ike keys m.request) setup.config.extended setup.entries table m.request.child made m.child in
+      let same_i : m.request.child.ts_i ≡ ts_i = same_Some m.request.child.ts_i ts_i (sym m.asks.ts_i ∙ there_i) in
+      let same_r : m.request.child.ts_r ≡ ts_r = same_Some m.request.child.ts_r ts_r (sym m.asks.ts_r ∙ there_r) in
+      subst (λ (s : List Selector). IsNarrowing setup.entries s ts_r made.pair.remote made.pair.local) same_i
+      (subst (λ (s : List Selector). IsNarrowing setup.entries m.request.child.ts_i s made.pair.remote made.pair.local) same_r narrowed)
 
   pub policy_obeyed : ObeysPolicy → DecidesFurtherOn setup ike keys table deleting payloads (decision.Made made) → LieInsidePolicy setup.entries made.pair.remote made.pair.local
   policy_obeyed law is =
@@ -85,6 +99,12 @@ module _ (setup : Setup) (ike : ℕ) (keys : KeyRecord) (table : Database) (dele
       → AnswersOffer made.pair.remote ts_i × AnswersOffer made.pair.local ts_r
   plain_offer_kept chain law request ts_i ts_r is spelled there_i there_r =
       offer_kept setup ike keys table deleting request made law ts_i ts_r (decided_as_sent chain setup ike keys table deleting plain request made spelled is) there_i there_r
+
+  pub plain_offer_narrowed : OneChain → NarrowsIts → (request : List Payload) (ts_i ts_r : List Selector) → DecidesFurther setup ike keys table deleting plain (decision.Made made)
+      → SpellsChain plain.first request plain.octets → only_ts_i request ≡ Some ts_i → only_ts_r request ≡ Some ts_r
+      → IsNarrowing setup.entries ts_i ts_r made.pair.remote made.pair.local
+  plain_offer_narrowed chain law request ts_i ts_r is spelled there_i there_r =
+      offer_narrowed setup ike keys table deleting request made law ts_i ts_r (decided_as_sent chain setup ike keys table deleting plain request made spelled is) there_i there_r
 
   pub plain_proposal_taken : OneChain → TakesIts → (request : List Payload) (proposals : List Proposal) → DecidesFurther setup ike keys table deleting plain (decision.Made made)
       → SpellsChain plain.first request plain.octets → only_sa request ≡ Some proposals → TakesProposal proposals made.payloads.proposals

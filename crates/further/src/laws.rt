@@ -13,7 +13,7 @@ ghost use Rattle.exchange.specs.declared.headers.Role.TheVariants.{Initiator, Re
 ghost use Rattle.exchange.specs.declared.notices.Notice.{Notice};
 ghost use Rattle.exchange.specs.declared.sealed.Plain.{Plain};
 ghost use Rattle.exchange.specs.Sealed.{PAYLOADS_LIMIT};
-ghost use Rattle.policy.specs.Narrowing.{AnswersOffer, IsSendableSelector, LieInsidePolicy};
+ghost use Rattle.policy.specs.Narrowing.{AnswersOffer, IsNarrowing, IsSendableSelector, LieInsidePolicy};
 ghost use Rattle.sadb.specs.Contents.{table_content};
 ghost use Rattle.sadb.specs.Database.{Database};
 ghost use Rattle.sadb.specs.Mirrors.{Mirrors};
@@ -113,9 +113,10 @@ pub fn further_children_mirror()
 }
 
 /// What is made keeps to its offer and to the policy (RFC 7296, sections 2.7 and 2.9), as a first Child SA
-/// does. The selectors lie inside those offered, and inside one entry that protects. ESN is used only where
-/// that is allowed. The answer's proposal has number and protocol of one that was offered, and takes its
-/// transforms from it. What is accepted keeps to what was asked. Does nothing.
+/// does. The selectors lie inside those offered, and inside one entry that protects, and are what the offer
+/// is narrowed to. ESN is used only where that is allowed. The answer's proposal has number and protocol of
+/// one that was offered, and takes its transforms from it. What is accepted keeps to what was asked. Does
+/// nothing.
 pub fn further_children_keep_to_their_offers()
     ensures offer { (setup : Setup) (ike : ℕ) (keys : KeyRecord) (table : Database) (deleting : Bool)
         (plain : Plain) (made : Made)
@@ -128,6 +129,13 @@ pub fn further_children_keep_to_their_offers()
         (plain : Plain) (made : Made)
         → DecidesFurther setup ike keys table deleting plain (decision.Made made)
         → LieInsidePolicy setup.entries made.pair.remote made.pair.local }
+    ensures narrowed { (setup : Setup) (ike : ℕ) (keys : KeyRecord) (table : Database) (deleting : Bool)
+        (plain : Plain) (made : Made)
+        (request : List Payload) (ts_i ts_r : List Selector)
+        → DecidesFurther setup ike keys table deleting plain (decision.Made made)
+        → SpellsChain plain.first request plain.octets
+        → only_ts_i request ≡ Some ts_i → only_ts_r request ≡ Some ts_r
+        → IsNarrowing setup.entries ts_i ts_r made.pair.remote made.pair.local }
     ensures extension { (setup : Setup) (ike : ℕ) (keys : KeyRecord) (table : Database) (deleting : Bool)
         (plain : Plain) (made : Made)
         → DecidesFurther setup ike keys table deleting plain (decision.Made made)

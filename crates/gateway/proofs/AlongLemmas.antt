@@ -15,7 +15,7 @@ use Rattle.gateway.specs.declared.world.stored.End.{End}
 use Rattle.gateway.specs.declared.world.stored.End.TheVariants.{A, B}
 use Rattle.gateway.proofs.ChildLemmas.{gateway_here, gateway_there, way_of}
 use Rattle.ike.specs.Before.{How}
-use Rattle.gateway.proofs.BeforeLemmas.{same_one, step_previous, StepLaws}
+use Rattle.gateway.proofs.BeforeLemmas.{step_previous, StepLaws}
 
 -- ---- places of a history
 

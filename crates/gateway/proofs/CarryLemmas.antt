@@ -28,6 +28,7 @@ use Rattle.traffic.specs.Outcomes.{Outcome}
 use Rattle.traffic.specs.Outcomes as traffic
 use Rattle.traffic.specs.Receiving.{IsAddressedTo, Receives, TakesNumberAt}
 use Rattle.traffic.specs.Sending.{IsDecided, Sends}
+use Rattle.ike.specs.Payloads.{OpensToItself}
 use Rattle.gateway.specs.Exchanges.{HoldOneRecord}
 use Rattle.gateway.specs.Inputs.{Event, Input}
 use Rattle.gateway.specs.Inputs as input
@@ -56,7 +57,6 @@ use Rattle.gateway.proofs.ChildLemmas.{gateway_here, known_after, ChildLaws, Sha
 use Rattle.gateway.proofs.DeliveryLemmas.{came_up, goes_up, packets_kept, told_outcome}
 use Rattle.gateway.proofs.MirrorLemmas.{children_mirror, MirrorLaws}
 use Rattle.gateway.proofs.MoveLemmas.{TurnLaws}
-use Rattle.gateway.proofs.OpenLemmas.{OpenLaws}
 use Rattle.gateway.proofs.PairLemmas.{accounts_after, PairLaws}
 use Rattle.gateway.proofs.PartyLemmas.{none_some, none_there, some_is}
 use Rattle.gateway.proofs.SoundWorldLemmas.{event_later, still_sent, trail_later, world_calls_joined, world_told}
@@ -373,7 +373,7 @@ same_place {C} end (x ∷ hs) (suc place) (suc other) h g there too own also as_
 -- ---- all of it
 
 module _ {C : Type 0} (turns : TurnLaws) (kin : ChildLaws) (mirrors : MirrorLaws) (laws : PairLaws) (carry : CarryLaws) (meaning_of : C → Meaning) (body_of : Keys → Octets → Octets → Octets → Octets) (plain_of : Opening)
-    (shares : ShareCipher meaning_of body_of plain_of) (opens : OpenLaws body_of plain_of) (hs : List (Happening C)) (old new : WorldState C) (trail : IsWorldTrail meaning_of old hs new) (sound : StaysSound meaning_of hs old new)
+    (shares : ShareCipher meaning_of body_of plain_of) (opens : OpensToItself body_of plain_of) (hs : List (Happening C)) (old new : WorldState C) (trail : IsWorldTrail meaning_of old hs new) (sound : StaysSound meaning_of hs old new)
     (windows : (keys : KeyRecord) → IsSoundUnder keys old → AccountsForWindows body_of plain_of keys old old.stored → IsUnforged meaning_of keys hs new.stored → IsNeverMadeTwice keys new.stored → AccountsForWindows body_of plain_of keys new new.stored)
     (fit : (keys : KeyRecord) → AccountsForWindows body_of plain_of keys new new.stored → WindowsFit keys new) where
   stays_so : (keys : KeyRecord) → IsWhollySound body_of plain_of keys old → IsUnforged meaning_of keys hs new.stored → IsNeverMadeTwice keys new.stored → IsWhollySound body_of plain_of keys new

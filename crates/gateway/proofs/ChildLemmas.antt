@@ -66,7 +66,8 @@ use Rattle.gateway.specs.Outputs.{view_of_ike, OutputView}
 use Rattle.gateway.specs.Requests.{for_ike, IsDatagram}
 use Rattle.gateway.specs.States.{association_in, State}
 use Rattle.gateway.specs.Steps.{DoesInput, StepsIke}
-use Rattle.gateway.specs.WorldChildren.{AccountsForChildren, AsksForItsChildren, IsStoredOf, OpensToPayloads, SealsPayloads, SentRequest, WasAnsweredFor, WasAskedFor, WasMade}
+use Rattle.ike.specs.Payloads.{OpensToPayloads, SealsPayloads}
+use Rattle.gateway.specs.WorldChildren.{AccountsForChildren, AsksForItsChildren, IsStoredOf, SentRequest, WasAnsweredFor, WasAskedFor, WasMade}
 use Rattle.gateway.specs.WorldHistories.{Happening}
 use Rattle.gateway.specs.WorldParties.{HasSent, HoldsUnder}
 use Rattle.gateway.specs.WorldPromises.{ComesUnder}

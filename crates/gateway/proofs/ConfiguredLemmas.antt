@@ -1,20 +1,18 @@
 -- The window of each established IKE SA is the one that the configuration has.
 use Rattle.std.proofs.Common.{◌≡◌, ◌⊎◌, ◌≤◌, inl, inr, ℕ, Bool, true, false, List, Option, Some, None, max, refl, ap, subst, sym, ◌∙◌, arith}
 use Rattle.policy.specs.declared.entry.Entry.{Entry}
-use Rattle.suite.specs.declared.key_record.KeyRecord.{KeyRecord}
 use Rattle.exchange.specs.declared.headers.Role.{Role}
 use Rattle.exchange.specs.declared.headers.Role.TheVariants.{Initiator, Responder}
 use Rattle.sadb.specs.Database.{Database, IsSoundTable}
 use Rattle.requests.specs.Incoming.{PeerRequests}
 use Rattle.association.specs.Phases.{IsEstablished}
 use Rattle.association.specs.declared.phase.Association.{Association}
-use Rattle.association.specs.declared.phase.Phase.{Phase}
 use Rattle.setup.specs.declared.config.Config.{Config}
 use Rattle.effects.specs.Requests.{is_concluded}
 use Rattle.effects.specs.Taking.{Meaning}
 use Rattle.ike.specs.LawsOfRequests.{TheConcludedStaysConcluded, TheWindowStaysOrIsWidened, WhatComesHasTheNextSerial, TheEstablishedHaveTheirWindowWidened}
 use Rattle.ike.specs.LawsOfSteps.{StepsKeepTheirLaws}
-use Rattle.ike.specs.Machines.{association_of, Held, Machine}
+use Rattle.ike.specs.Machines.{association_of, Machine}
 use Rattle.ike.specs.Proving.{ProvedBy}
 use Rattle.ike.specs.Requests.{first_requests, IsHeldThrough}
 use Rattle.ike.specs.Soundness.{IsSoundMachine}

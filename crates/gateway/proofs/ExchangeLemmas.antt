@@ -2,15 +2,12 @@
 use Rattle.std.proofs.Common.{◌≡◌, ◌⊎◌, ◌<◌, ◌∷◌, inl, inr, ℕ, Bool, true, false, List, [], Option, Some, None, length, slice_get, refl, sym, ap, subst, ◌∙◌, arith}
 use Rattle.std.specs.Prelude.{option_and_then}
 use Rattle.base.specs.Octets.{Octets}
-use Rattle.wire.specs.Messages.{Spells, SpellsPlainly}
 use Rattle.wire.specs.declared.message.Header.{Header}
-use Rattle.wire.specs.declared.message.Message.{Message}
 use Rattle.policy.specs.declared.entry.Entry.{Entry}
 use Rattle.suite.specs.Callers.{IsSecret}
 use Rattle.suite.specs.declared.fresh.Fresh.{Fresh}
 use Rattle.suite.specs.declared.key_record.KeyRecord.{KeyRecord}
 use Rattle.sa_init.specs.Judging.{OfferView}
-use Rattle.sa_init.specs.Messages.{answer_message}
 use Rattle.sadb.specs.Database.{Database, IsSoundTable}
 use Rattle.association.specs.Admitting.{Admits}
 use Rattle.association.specs.Phases.{keys_in}
@@ -23,11 +20,11 @@ use Rattle.effects.specs.Taking.{asker_of, Meaning}
 use Rattle.ike.specs.Before.{ByMessage, ByOrder, ByTick, CameNow, How, IsFirstRequest, Same}
 use Rattle.ike.specs.LawsOfBefore.{WhoWaitsKeepsItsOffer}
 use Rattle.ike.specs.LawsOfOutputs.{KeysStay}
-use Rattle.ike.specs.LawsOfRecords.{KeysComeToTheInitiator, KeysComeToTheResponder}
+use Rattle.ike.specs.LawsOfRecords.{FirstAnswersIntroduceTheirSenders, FirstRequestsIntroduceTheirSenders, KeysComeToTheInitiator, KeysComeToTheResponder, OctetsIntroduceOneSender}
 use Rattle.ike.specs.LawsOfSoundness.{SoundnessStays}
 use Rattle.ike.specs.Orders as orders
-use Rattle.ike.specs.Machines.{association_of, keys_of_serial, setup_at, Held, Machine}
-use Rattle.ike.specs.Soundness.{AreSound, IsSoundMachine}
+use Rattle.ike.specs.Machines.{association_of, Machine}
+use Rattle.ike.specs.Soundness.{IsSoundMachine}
 use Rattle.ike.specs.Steps as ike
 use Rattle.ike.specs.declared.output.IkeOutput.{IkeOutput}
 use Rattle.ike.specs.declared.output.IkeOutput.TheVariants as made
@@ -45,18 +42,19 @@ use Rattle.gateway.specs.WorldHistories.{Happening, IsWorldTrail}
 use Rattle.gateway.specs.Worlds.{gateway_at, other_end, TakesEvent, WorldState}
 use Rattle.gateway.specs.declared.world.stored.End.{End}
 use Rattle.gateway.proofs.ChildLemmas.{way_of}
-use Rattle.ike.specs.Records.{ComesToKeysAsInitiator, ComesToKeysAsResponder, Introduction, SaysOfSender}
-use Rattle.gateway.specs.Exchanges.{AnswersRequest, HaveExchanged, HoldsWith, ReadsResponse, SendsRequest}
-use Rattle.gateway.proofs.IntroductionLemmas.{answer_says, introduced, request_says}
+use Rattle.ike.specs.Records.{introduced, ComesToKeysAsInitiator, ComesToKeysAsResponder, Introduces, Introduction, SaysOfSender}
+use Rattle.gateway.specs.Exchanges.{AnswersRequest, HaveExchanged, HaveIntroduced, HoldsWith, ReadsResponse, SendsRequest}
 use Rattle.gateway.proofs.BeforeLemmas.{given_before, none_some, same_one, step_previous, StepLaws}
-use Rattle.gateway.proofs.AlongLemmas.{after_here, behind, between, each_step, kept_along, Keeps}
+use Rattle.gateway.proofs.AlongLemmas.{after_here, behind, between, each_step, kept_along}
 
 -- what is known beside one step
 pub record RecordLaws : Type 0 where
   pub steps : StepLaws
   pub sound : SoundnessStays
   pub keys : KeysStay
-  pub spells : (m : Message) (b : Octets) → SpellsPlainly m b → Spells m b
+  pub request : FirstRequestsIntroduceTheirSenders
+  pub answer : FirstAnswersIntroduceTheirSenders
+  pub one_sender : OctetsIntroduceOneSender
   pub initiator : KeysComeToTheInitiator
   pub responder : KeysComeToTheResponder
   pub waits : WhoWaitsKeepsItsOffer
@@ -237,20 +235,22 @@ module _ {C : Type 0} (laws : RecordLaws) (meaning_of : C → Meaning) where
     made_of_it : (request response from : Octets) (fresh : Fresh) (stepped : Stepped) → ike.Steps meaning was.entries (ike.Message from request fresh) was.machine was.table stepped t.gateway.machine t.gateway.table → (serial : ℕ) (after : Association) (place : ℕ) → slice_get was.machine.held.associations place ≡ None → slice_get t.gateway.machine.held.associations place ≡ Some after
         → (offer : OfferView) (spi_i : ℕ) (admitted : Admitted) → admitted.association ≡ after → admitted.octets ≡ response
         → Admits meaning.cipher meaning.group meaning.public_value meaning.shared_secret fresh was.machine.moment serial offer spi_i request admitted → MadeAt request response fresh after
-    made_of_it request response from fresh stepped steps serial after place none_at stands_at offer spi_i admitted now reply admits = record {
-      place = place;
-      none_stood = none_at;
-      stands_at = stands_at;
-      opened = _;
-      opens = ap (λ (a : Association). a.phase) (sym now ∙ admits.content);
-      request_is = refl;
-      says = answer_says laws.spells meaning.cipher meaning.group meaning.public_value offer.chosen fresh.secret fresh.nonce spi_i fresh.spi response
-          (subst (λ (o : Octets). SpellsPlainly (answer_message meaning.cipher meaning.group (meaning.public_value fresh.secret) offer.chosen fresh.nonce spi_i fresh.spi) o) (sym admits.octets ∙ reply) admits.answer.spelled);
-      responds = refl;
-      comes = λ secret other says.
-          laws.responder meaning was.entries from request fresh was.machine was.table stepped t.gateway.machine t.gateway.table place after _ (introduced meaning.public_value fresh.spi fresh.secret fresh.nonce) other steps none_at stands_at
-          (ap keys_in (ap (λ (a : Association). a.phase) (sym now ∙ admits.content))) secret refl says;
-    }
+    made_of_it request response from fresh stepped steps serial after place none_at stands_at offer spi_i admitted now reply admits =
+        let introduces = subst (λ (o : Octets). Introduces (λ (x : Header). x.spi_r) true o (introduced meaning.public_value fresh.spi fresh.secret fresh.nonce)) reply
+        (laws.answer meaning.cipher meaning.group meaning.public_value meaning.shared_secret fresh was.machine.moment serial offer spi_i request admitted admits) in
+        record {
+          place = place;
+          none_stood = none_at;
+          stands_at = stands_at;
+          opened = _;
+          opens = ap (λ (a : Association). a.phase) (sym now ∙ admits.content);
+          request_is = refl;
+          says = introduces.says;
+          responds = introduces.flag;
+          comes = λ secret other says.
+              laws.responder meaning was.entries from request fresh was.machine was.table stepped t.gateway.machine t.gateway.table place after _ (introduced meaning.public_value fresh.spi fresh.secret fresh.nonce) other steps none_at stands_at
+              (ap keys_in (ap (λ (a : Association). a.phase) (sym now ∙ admits.content))) secret refl says;
+        }
 
     made_by : (request response from : Octets) (fresh : Fresh) (stepped : Stepped) → ike.Steps meaning was.entries (ike.Message from request fresh) was.machine was.table stepped t.gateway.machine t.gateway.table
         → h.said ≡ view_of_ike stepped.output → h.said ≡ said.Reply response None
@@ -324,7 +324,7 @@ module _ {C : Type 0} (laws : RecordLaws) (meaning_of : C → Meaning) where
         let caller = (gateway_at h.event.end h.before).caller in
         let goes = requests h t serial octets s.said s.association (there_of h t end serial s.association s.at s.there) s.sent s.waits in
         subst (λ (f : Octets → Octets). TellsOffer octets f s.association s.sent) (shares caller)
-        (record { says = request_says laws.spells (meaning_of caller) s.association.spi_i s.sent.secret s.sent.nonce octets goes; asks = refl })
+        (let introduces = laws.request (meaning_of caller) s.association.spi_i s.sent.secret s.sent.nonce octets goes in record { says = introduces.says; asks = introduces.flag })
 
     pub made_of : (h : Happening C) (t : TakesEvent meaning_of h.event h.before h.said h.after) (end : End) (serial : ℕ) (request response : Octets) (a : AnswersRequest h end serial request response) → MadeAt h t request response a.fresh a.association
     made_of h t end serial request response a =
@@ -374,25 +374,61 @@ module _ {C : Type 0} (laws : RecordLaws) (meaning_of : C → Meaning) where
       abbrev pub introduction_at : {h : Happening C} {end : End} {serial : ℕ} {response : Octets} → ReadsResponse h end serial response → Introduction
       introduction_at r = introduced public_value r.was.spi_i r.sent.secret r.sent.nonce
 
+      -- octets that come as they were sent tell the same
+      abbrev pub introduced_by : (end : End) (asking answering : ℕ) → HaveExchanged hs end asking answering → HaveIntroduced hs end asking answering
+      introduced_by end asking answering e = record {
+        initiator = introduced public_value e.sends.association.spi_i e.sends.sent.secret e.sends.sent.nonce;
+        responder = introduced (meaning_of (gateway_at e.replies.event.end e.replies.before).caller).public_value e.answers.fresh.spi e.answers.fresh.secret e.answers.fresh.nonce;
+        sent = e.request;
+        came = e.request;
+        answer = e.response;
+        response = e.response;
+        asked = e.asked;
+        asks = e.asks;
+        asks_there = e.asks_there;
+        sends = e.sends;
+        sent_says = (request_tells e.asks (step_at e.asked e.asks e.asks_there) end asking e.request e.sends).says;
+        answered = e.answered;
+        replies = e.replies;
+        replies_there = e.replies_there;
+        answers = e.answers;
+        came_says = (request_tells e.asks (step_at e.asked e.asks e.asks_there) end asking e.request e.sends).says;
+        answer_says = (made_of e.replies (step_at e.answered e.replies e.replies_there) (other_end end) answering e.request e.response e.answers).says;
+        taken = e.taken;
+        takes = e.takes;
+        takes_there = e.takes_there;
+        reads = e.reads;
+        response_says = (made_of e.replies (step_at e.answered e.replies e.replies_there) (other_end end) answering e.request e.response e.answers).says;
+        later = e.later;
+      }
+
       module _ (agree : (caller answerer : C) (initiator responder : Introduction) (one other : KeyRecord) → ComesToKeysAsInitiator (asker_of (meaning_of caller)) initiator responder one
           → ComesToKeysAsResponder (meaning_of answerer).cipher (meaning_of answerer).group (meaning_of answerer).public_value (meaning_of answerer).shared_secret responder initiator other → one ≡ other)
-          (end : End) (asking answering : ℕ) (e : HaveExchanged hs end asking answering) where
+          (end : End) (asking answering : ℕ) (e : HaveIntroduced hs end asking answering) where
+        abbrev asks_step : TakesEvent meaning_of e.asks.event e.asks.before e.asks.said e.asks.after
+        asks_step = step_at e.asked e.asks e.asks_there
+
         abbrev replies_step : TakesEvent meaning_of e.replies.event e.replies.before e.replies.said e.replies.after
         replies_step = step_at e.answered e.replies e.replies_there
 
         abbrev takes_step : TakesEvent meaning_of e.takes.event e.takes.before e.takes.said e.takes.after
         takes_step = step_at e.taken e.takes e.takes_there
 
-        abbrev made_so : MadeAt e.replies replies_step e.request e.response e.answers.fresh e.answers.association
-        made_so = made_of e.replies replies_step (other_end end) answering e.request e.response e.answers
+        abbrev made_so : MadeAt e.replies replies_step e.came e.answer e.answers.fresh e.answers.association
+        made_so = made_of e.replies replies_step (other_end end) answering e.came e.answer e.answers
 
         what_is : offered e.reads.was e.reads.sent ≡ offered e.sends.association e.sends.sent
-        what_is = held_on e.asked e.taken e.asks e.takes e.asks_there e.takes_there e.later end asking e.request e.response e.sends e.reads
+        what_is = held_on e.asked e.taken e.asks e.takes e.asks_there e.takes_there e.later end asking e.sent e.response e.sends e.reads
 
-        request_is : SaysOfSender (λ (x : Header). x.spi_i) e.request (introduction_at e.reads)
-        request_is =
-            subst (λ (o : Offered). SaysOfSender (λ (x : Header). x.spi_i) e.request (introduced public_value o.spi o.secret o.nonce)) (sym what_is)
-            (request_tells e.asks (step_at e.asked e.asks e.asks_there) end asking e.request e.sends).says
+        -- what the initiator holds of itself is what the request told that it sent
+        initiator_is : e.initiator ≡ introduction_at e.reads
+        initiator_is =
+            laws.one_sender (λ (x : Header). x.spi_i) e.sent e.initiator (introduced public_value e.sends.association.spi_i e.sends.sent.secret e.sends.sent.nonce) e.sent_says
+            (request_tells e.asks asks_step end asking e.sent e.sends).says
+            ∙ ap (λ (o : Offered). introduced public_value o.spi o.secret o.nonce) (sym what_is)
+
+        request_is : SaysOfSender (λ (x : Header). x.spi_i) e.came (introduction_at e.reads)
+        request_is = subst (λ (i : Introduction). SaysOfSender (λ (x : Header). x.spi_i) e.came i) initiator_is e.came_says
 
         abbrev asker_at : C
         asker_at = (gateway_at e.takes.event.end e.takes.before).caller
@@ -403,11 +439,15 @@ module _ {C : Type 0} (laws : RecordLaws) (meaning_of : C → Meaning) where
         abbrev responding : Introduction
         responding = introduced public_value e.answers.fresh.spi e.answers.fresh.secret e.answers.fresh.nonce
 
+        -- and so of the responder and its answer
+        responder_is : e.responder ≡ responding
+        responder_is =
+            laws.one_sender (λ (x : Header). x.spi_r) e.answer e.responder responding e.answer_says
+            (subst (λ (f : Octets → Octets). SaysOfSender (λ (x : Header). x.spi_r) e.answer (introduced f e.answers.fresh.spi e.answers.fresh.secret e.answers.fresh.nonce)) (shares answerer_at) made_so.says)
+
         read_so : ComesToKeysAsInitiator (asker_of (meaning_of asker_at)) (introduction_at e.reads) responding e.reads.keys
         read_so =
-            let says : SaysOfSender (λ (x : Header). x.spi_r) e.response responding =
-            subst (λ (f : Octets → Octets). SaysOfSender (λ (x : Header). x.spi_r) e.response (introduced f e.answers.fresh.spi e.answers.fresh.secret e.answers.fresh.nonce)) (shares answerer_at) made_so.says
-            in
+            let says : SaysOfSender (λ (x : Header). x.spi_r) e.response responding = subst (λ (i : Introduction). SaysOfSender (λ (x : Header). x.spi_r) e.response i) responder_is e.response_says in
             subst (λ (f : Octets → Octets). ComesToKeysAsInitiator (asker_of (meaning_of asker_at)) (introduced f e.reads.was.spi_i e.reads.sent.secret e.reads.sent.nonce) responding e.reads.keys) (shares asker_at)
             (read_keys e.takes takes_step end asking e.response e.reads (subst (λ (o : Offered). IsSecret o.secret) (sym what_is) e.sends.secret) responding says)
 

@@ -54,7 +54,7 @@ use Rattle.ike.specs.Machines.{association_of, has_serial, setup_at, Held, Machi
 use Rattle.ike.specs.Orders as order
 use Rattle.ike.specs.Receiving.{is_initial_request, is_sound_initial, with_next, TakesDatagram, TakesFound, TakesRead}
 use Rattle.ike.specs.Soundness.{IsSoundMachine}
-use Rattle.ike.specs.Starting.{if_protects, protecting, protecting_entry, Starts}
+use Rattle.ike.specs.Starting.{child_by, if_protects, protecting, protecting_entry, Starts}
 use Rattle.ike.specs.Steps.{InputView, Steps}
 use Rattle.ike.specs.Steps as input
 use Rattle.ike.specs.declared.output.MadeChild.{MadeChild}
@@ -89,14 +89,18 @@ answer_inside answer asked side answers inside k s there p holds =
     let lies = answers.each k s there in
     inside lies.place lies.selector lies.there p (lies.inside p holds)
 
+-- the whole of a side
+whole_inside : (asked side : Selector) → asked ≡ side → LieInSide (asked ∷ []) side
+whole_inside asked side same = subst (λ (s : Selector). LieInSide (s ∷ []) side) (sym same) (side_inside side)
+
 kept_inside : (entries : List Entry) (child : AskedChildView) (pair : Pair) → IsAskedInside entries child → KeepsToRequest (asked_of child) pair → LieInsidePolicy entries pair.remote pair.local
 kept_inside entries child pair inside keeps = record {
   place = inside.place;
   entry = inside.entry;
   there = inside.there;
   protects = inside.protects;
-  side_i = answer_inside pair.remote child.remote (remote_side inside.entry) keeps.remote inside.side_i;
-  side_r = answer_inside pair.local child.local (local_side inside.entry) keeps.local inside.side_r;
+  side_i = answer_inside pair.remote child.remote (remote_side inside.entry) keeps.remote (whole_inside child.remote (remote_side inside.entry) inside.remote);
+  side_r = answer_inside pair.local child.local (local_side inside.entry) keeps.local (whole_inside child.local (local_side inside.entry) inside.local);
 }
 
 -- ---- an entry that protects
@@ -119,10 +123,11 @@ protects_by entries place entry (Some e) there is =
 protects_of : (entries : List Entry) (place : ℕ) (entry : Entry) → protecting_entry entries place ≡ Some entry → Protects entries place entry
 protects_of entries place entry is = protects_by entries place entry (slice_get entries place) refl is
 
-sides_inside : (entries : List Entry) (place : ℕ) (entry : Entry) → protecting_entry entries place ≡ Some entry → LieInsidePolicy entries (remote_side entry ∷ []) (local_side entry ∷ [])
-sides_inside entries place entry is =
+sides_inside : (entries : List Entry) (place : ℕ) (entry : Entry) (child : AskedChildView) → protecting_entry entries place ≡ Some entry → child.remote ≡ remote_side entry → child.local ≡ local_side entry
+    → IsAskedInside entries child
+sides_inside entries place entry child is remote local =
     let by = protects_of entries place entry is in
-    record { place = place; entry = entry; there = by.there; protects = by.protects; side_i = side_inside (remote_side entry); side_r = side_inside (local_side entry) }
+    record { place = place; entry = entry; there = by.there; protects = by.protects; remote = remote; local = local }
 
 -- ---- lists of which one item is replaced, or that grow by one
 
@@ -209,7 +214,7 @@ begun_inside entries a child octets moment inside asked issued = record {
 -- the child that a command asks for by an entry
 further_inside : (entries : List Entry) (entry : Entry) (request : Request) (further : FurtherChild) (setup : Setup) (octets : Octets) (spi : ℕ)
     → new_request octets (CreateChild (wanted setup spi (local_side entry) (remote_side entry))) setup.moment ≡ request → request.purpose ≡ CreateChild further
-    → LieInsidePolicy entries (remote_side entry ∷ []) (local_side entry ∷ []) → IsAskedInside entries further.child
+    → IsAskedInside entries (wanted setup spi (local_side entry) (remote_side entry)).child → IsAskedInside entries further.child
 further_inside entries entry request further setup octets spi same asked inside =
     let is : CreateChild (wanted setup spi (local_side entry) (remote_side entry)) ≡ CreateChild further = ap (λ (r : Request). r.purpose) same ∙ asked in
     let child : wanted setup spi (local_side entry) (remote_side entry) ≡ further = cc in
@@ -305,13 +310,13 @@ module _ (facts : InsideFacts) (meaning : Meaning) (setup : Setup) (old : Held) 
   -- a command asks for what the entry has that it names
   start_asks : (ike : Option ℕ) (place : ℕ) (stepped : Stepped) (new : Held) (new_table : Database) → Starts meaning setup ike place old table stepped new new_table → AllAsk setup.entries new
   start_asks None place stepped new new_table is =
-      let inside = sides_inside setup.entries place is.entry is.allowed.protects in
+      let inside = sides_inside setup.entries place is.entry (child_by is.entry is.done.spi setup.config.extended) is.allowed.protects refl refl in
       more_held setup.entries old (begun old.next is.beginning _) new is.done.content
       (begun_inside setup.entries (begun old.next is.beginning _) _ is.beginning.octets setup.moment inside refl is.begins.issued) all
   start_asks (Some ike) place stepped new new_table is =
-      let inside = sides_inside setup.entries place is.entry is.protects in
       let at = is.asks.asks in
       let f = is.asks.further in
+      let inside = sides_inside setup.entries place is.entry (wanted setup f.spi (local_side is.entry) (remote_side is.entry)).child is.protects refl refl in
       set_held setup.entries old at.place at.changed new at.content
       (ordered_inside setup.entries at.association at.changed f.keys f.established (ap (λ (x : Association). x.phase) f.content)
       (λ number request further there asked.

@@ -1,11 +1,11 @@
 -- Outbound packets that are laid first, and get their ICVs afterwards.
-use Rattle.std.proofs.Common.{◌≡◌, ◌+◌, ◌-◌, ◌<◌, ◌≤◌, ◌++◌, ℕ, List, [], ◌∷◌, length, take, drop, get_or, refl, sym, ap, ◌∙◌, subst, arith, append_assoc, Option, Some, None}
+use Rattle.std.proofs.Common.{◌≡◌, ◌+◌, ◌-◌, ◌<◌, ◌≤◌, ◌++◌, ℕ, List, [], ◌∷◌, length, length-append, length-drop, take, drop, get_or, refl, sym, ap, ◌∙◌, subst, arith, append_assoc, Option, Some, None}
 use Rattle.std.specs.Prelude.{IfSome}
 use Rattle.std.proofs.lemmas.List.{append-nil, drop_all, drop_at, drop_more, length-map, length-take-le, map-append, take-append-drop, take_all, take_at, take_more, take_more_set, take_rest, take-set, drop-drop, drop-set-lt, length-set}
 use Rattle.std.proofs.lemmas.Option.{slice_get-get_or}
+use Rattle.std.proofs.lemmas.Slice.{drop-put_mid, take-put_mid}
 use Rattle.std.proofs.Math.ListN.{set}
 use borrow.Rule.Slice.PartMut.{put_mid}
-use Rattle.esp.proofs.FinishLemmas.{lent_behind}
 use Rattle.base.specs.Octets.{Octets}
 use Rattle.esp.specs.Precomputed.{ArePrecomputed, IsPrecomputed}
 use Rattle.esp.specs.declared.precomputed.Precomputed.{Precomputed}
@@ -163,6 +163,26 @@ left_still laid before k x v rest =
     ∙ sym (drop_one laid k)
     ∙ ap (drop 1) rest
     ∙ drop_one before k
+
+-- what a vector holds of which all behind a place was lent and written over
+lent_behind : (start len : ℕ) (items xs ys : List Output) → xs ≡ items → len ≡ length items → start ≤ length items → length ys ≡ length (take (length xs - start) (drop start xs))
+    → take len (put_mid start (length xs - start) xs ys ++ drop (length (put_mid start (length xs - start) xs ys)) items) ≡ take start items ++ ys
+lent_behind start len items xs ys e_xs e_len within e_size =
+    let whole : List Output = put_mid start (length xs - start) xs ys in
+    let n : ℕ = start + length ys in
+    let long_xs : length xs ≡ length items = ap length e_xs in
+    let long_ys : length ys ≡ length xs - start = e_size ∙ ap length (take_rest xs start) ∙ length-drop start xs in
+    let written : whole ≡ take start xs ++ ys = sym (take-append-drop n whole)
+    ∙ ap (λ (zs : List Output). zs ++ drop n whole) (take-put_mid start (length xs - start) xs ys n refl (omega arith))
+    ∙ ap (λ (zs : List Output). (take start xs ++ ys) ++ zs) (drop-put_mid start (length xs - start) xs ys n (omega arith) (omega arith) long_ys ∙ drop_all n xs (omega arith))
+    ∙ append-nil (take start xs ++ ys) in
+    let front : length (take start xs) ≡ start = length-take-le start xs (omega arith) in
+    let long : length whole ≡ length items = ap length written ∙ length-append (take start xs) ys ∙ omega arith in
+    ap (λ (zs : List Output). take len (whole ++ zs)) (drop_all (length whole) items (omega arith))
+    ∙ ap (take len) (append-nil whole)
+    ∙ take_all len whole (omega arith)
+    ∙ written
+    ∙ ap (λ (zs : List Output). take start zs ++ ys) e_xs
 
 -- outputs of which the last ones were lent and finished
 pub finish_behind : (pairs : PairMap) (start len : ℕ) (items xs ys : List Output) → xs ≡ items → len ≡ length items → start ≤ length items

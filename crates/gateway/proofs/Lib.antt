@@ -20,17 +20,12 @@ mod MomentLemmas
 mod AuthenticationLemmas
 mod DeliveryLemmas
 mod LentLemmas
-mod WorkedLemmas
-pub mod WorkedRequestLemmas
 mod PromiseLemmas
 pub mod PartyLemmas
 pub mod MoveLemmas
 pub mod TurnLemmas
 pub mod SoundWorldLemmas
-mod WorkedAskingLemmas
-pub mod WorkedWorldLemmas
 mod FlowLemmas
-pub mod OpenLemmas
 pub mod ChildLemmas
 mod MirrorLemmas
 mod PairLemmas
@@ -57,6 +52,5 @@ pub mod LeavingLemmas
 pub mod EffectLemmas
 mod AlikeLemmas
 pub mod BeforeLemmas
-pub mod IntroductionLemmas
 pub mod AlongLemmas
 pub mod ExchangeLemmas

@@ -14,7 +14,8 @@ use Rattle.children.specs.Pairs.{IsChild}
 use Rattle.further.specs.Pairs.{IsFurtherChild}
 use Rattle.suite.specs.Keys.{first_child_keys}
 use Rattle.effects.specs.Children.{exchange_of_child, ChildKind, First, Further, IsChildOf}
-use Rattle.gateway.specs.WorldChildren.{AccountsForChildren, AreOfOneRequest, ChildrenMirror, IsStoredOf, MirrorEachOther, OpensToPayloads, SealsPayloads, WasAnsweredFor, WasAskedFor, WasMade}
+use Rattle.ike.specs.Payloads.{OpensToItself, OpensToPayloads, SealsPayloads}
+use Rattle.gateway.specs.WorldChildren.{AccountsForChildren, AreOfOneRequest, ChildrenMirror, IsStoredOf, MirrorEachOther, WasAnsweredFor, WasAskedFor, WasMade}
 use Rattle.gateway.specs.WorldParties.{HasSent}
 use Rattle.gateway.specs.WorldPromises.{EndsAgree}
 use Rattle.gateway.specs.Worlds.{other_end, simplex_of, WorldState}
@@ -22,7 +23,6 @@ use Rattle.gateway.specs.declared.world.stored.Child.{Child}
 use Rattle.gateway.specs.declared.world.stored.End.{End}
 use Rattle.gateway.specs.declared.world.stored.End.TheVariants.{A, B}
 use Rattle.gateway.specs.declared.world.stored.Simplex.{Simplex}
-use Rattle.gateway.proofs.OpenLemmas.{opens_so, OpenLaws}
 
 -- what is known of the pairs of both ends
 pub record MirrorLaws : Type 0 where
@@ -55,7 +55,7 @@ stored_mirror one other a b first second is = record {
   remote = first.remote ∙ is.remote ∙ sym second.local;
 }
 
-module _ {C : Type 0} (laws : MirrorLaws) (body_of : Keys → Octets → Octets → Octets → Octets) (plain_of : Opening) (opens : OpenLaws body_of plain_of) (keys : KeyRecord) (w : WorldState C) (ends : EndsAgree keys w) where
+module _ {C : Type 0} (laws : MirrorLaws) (body_of : Keys → Octets → Octets → Octets → Octets) (plain_of : Opening) (opens : OpensToItself body_of plain_of) (keys : KeyRecord) (w : WorldState C) (ends : EndsAgree keys w) where
   one_mirror : (asked answered : Child) → asked.keys ≡ keys → AreOfOneRequest asked answered → WasAskedFor body_of plain_of asked w.stored → WasAnsweredFor body_of plain_of answered w.stored → MirrorEachOther asked answered
   one_mirror asked answered under one a b =
       let end = asked.end in
@@ -84,8 +84,8 @@ module _ {C : Type 0} (laws : MirrorLaws) (body_of : Keys → Octets → Octets 
       subst (λ (o : Octets). SealsPayloads body_of keys (exchange_of_child b.kind) true number b.answers o) response
       (subst (λ (n : ℕ). SealsPayloads body_of keys (exchange_of_child b.kind) true n b.answers b.response) one.number
       (subst (λ (k : KeyRecord). SealsPayloads body_of k (exchange_of_child b.kind) true answered.number b.answers b.response) keyed b.sealed)) in
-      let asks = opens_so body_of plain_of opens keys (exchange_of_child a.kind) (exchange_of_child b.kind) false number a.asks b.asks a.request a_sealed b_opened in
-      let answers = opens_so body_of plain_of opens keys (exchange_of_child b.kind) (exchange_of_child a.kind) true number b.answers a.answers a.response b_sealed a_opened in
+      let asks = opens keys (exchange_of_child a.kind) (exchange_of_child b.kind) false number a.asks b.asks a.request a_sealed b_opened in
+      let answers = opens keys (exchange_of_child b.kind) (exchange_of_child a.kind) true number b.answers a.answers a.response b_sealed a_opened in
       let kind : b.kind ≡ a.kind = same_kind b.kind a.kind (sym asks.exchange_is) in
       let a_is : IsChildOf a.kind Initiator keys a.asks a.answers a.pair = subst (λ (k : KeyRecord). IsChildOf a.kind Initiator k a.asks a.answers a.pair) under a.is in
       let b_is : IsChildOf a.kind Responder keys a.asks a.answers b.pair =

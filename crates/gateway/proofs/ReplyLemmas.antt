@@ -21,12 +21,12 @@ use Rattle.association.specs.declared.phase.Association.{Association}
 use Rattle.association.specs.declared.phase.Phase.{Phase}
 use Rattle.association.specs.declared.phase.Phase.TheVariants as phase
 use Rattle.effects.specs.Moves.{first_ledger, ledger, ledger_of, Close, Count, Issue, Lead, Ledger, Make, Move, Moves, Remove, TakeEffect}
-use Rattle.effects.specs.Requests.{is_concluded, IsSoundlyHeld}
+use Rattle.effects.specs.Requests.{is_concluded}
 use Rattle.effects.specs.Taking.{Meaning}
 use Rattle.ike.specs.LawsOfOutputs.{KeysStay}
 use Rattle.ike.specs.LawsOfRequests.{NumbersTakeEffectByTheirDatagramAlone, RequestsFollowThoseBefore, TheConcludedStaysConcluded, WhatIsHeldIsSound}
 use Rattle.ike.specs.LawsOfSteps.{StepsKeepTheirLaws}
-use Rattle.ike.specs.Machines.{association_of, keys_of_serial, Held, Machine}
+use Rattle.ike.specs.Machines.{association_of, Held, Machine}
 use Rattle.ike.specs.Moves.{ledger_at, ComesFor, MoveComes, Tells}
 use Rattle.ike.specs.Soundness.{IsSoundMachine}
 use Rattle.ike.specs.Steps.{is_tick, InputView, Message, Order, Secret, Start, Steps, Tick}

@@ -41,6 +41,7 @@ use Rattle.ike.specs.declared.output.Stepped.{Stepped}
 use Rattle.ike.specs.declared.output.Trace.{Trace}
 use Rattle.lockstep.specs.Ends.{Entry}
 use Rattle.lockstep.specs.Parties.{under, Holds, IsSoundParty}
+use Rattle.ike.specs.Payloads.{OpensToItself}
 use Rattle.gateway.specs.Outputs.{OutputView, Repeat, Reply, Request, Sealed}
 use Rattle.gateway.specs.Requests.{for_ike, IsDatagram}
 use Rattle.gateway.specs.States.{association_in, State}
@@ -57,7 +58,6 @@ use Rattle.gateway.specs.declared.world.stored.Protection.TheVariants as mark
 use Rattle.gateway.proofs.ChildLemmas.{brought, gateway_here, gateway_there, keys_at, opened_with, way_of, Answered, Brought, ChildLaws, ShareCipher}
 use Rattle.gateway.proofs.HistoryLemmas.{does_way}
 use Rattle.gateway.proofs.MoveLemmas.{input_moves, octets_same, said_octets, way_keys, TurnLaws}
-use Rattle.gateway.proofs.OpenLemmas.{opens_so, OpenLaws}
 use Rattle.gateway.proofs.PartyLemmas.{at_head, from_map, further_on, has_ledger, ledger_keys, ledger_there, none_some, none_there, sent_there, single, some_is}
 use Rattle.gateway.proofs.SoundWorldLemmas.{both_sound, each_end, sound_after, still_sent, trail_later, BothSound, PartyLaws}
 use Rattle.gateway.proofs.ToldLemmas.{step_tells}
@@ -569,12 +569,12 @@ module _ {C : Type 0} (turns : TurnLaws) (parties : PartyLaws) (kin : ChildLaws)
 
 -- ---- so they fit
 
-pub windows_fit : {C : Type 0} (body_of : Keys → Octets → Octets → Octets → Octets) (plain_of : Opening) → OpenLaws body_of plain_of → (keys : KeyRecord) (w : WorldState C) → AccountsForWindows body_of plain_of keys w w.stored → WindowsFit keys w
+pub windows_fit : {C : Type 0} (body_of : Keys → Octets → Octets → Octets → Octets) (plain_of : Opening) → OpensToItself body_of plain_of → (keys : KeyRecord) (w : WorldState C) → AccountsForWindows body_of plain_of keys w w.stored → WindowsFit keys w
 windows_fit {C} body_of plain_of opens keys w known end a holds = elim (known.counts end a holds) [
   | inl less ↦ (let least = known.least (other_end end) in omega (arith, less, least))
   | inr told ↦ (
       let tells = known.tells (other_end end) told.response told.number told.octets told.sent in
-      let same = opens_so body_of plain_of opens keys tells.exchange told.exchange told.response told.number tells.payloads told.payloads told.octets tells.sealed told.opened in
+      let same = opens keys tells.exchange told.exchange told.response told.number tells.payloads told.payloads told.octets tells.sealed told.opened in
       let most : peer_window told.payloads ≤ window_at (other_end end) w = subst (λ (ps : List Payload). peer_window ps ≤ window_at (other_end end) w) same.payloads_are tells.tells in
       let within = told.within in
       omega (arith, most, within))

@@ -2,6 +2,7 @@
 -- and 2.14).
 use Rattle.std.specs.Prelude.{◌≡◌, ◌<◌, ℕ, List, None, Some, slice_get}
 use Rattle.base.specs.Octets.{Octets}
+use Rattle.wire.specs.declared.message.Header.{Header}
 use Rattle.suite.specs.Callers.{IsSecret}
 use Rattle.suite.specs.declared.fresh.Fresh.{Fresh}
 use Rattle.suite.specs.declared.key_record.KeyRecord.{KeyRecord}
@@ -9,6 +10,7 @@ use Rattle.association.specs.Phases.{keys_in}
 use Rattle.association.specs.declared.phase.Association.{Association}
 use Rattle.association.specs.declared.phase.InitSent.{InitSent}
 use Rattle.association.specs.declared.phase.Phase.TheVariants as phase
+use Rattle.ike.specs.Records.{Introduction, SaysOfSender}
 use Rattle.gateway.specs.Inputs as input
 use Rattle.gateway.specs.Outputs as output
 use Rattle.gateway.specs.States.{association_in}
@@ -76,6 +78,35 @@ pub record HaveExchanged {C : Type 0} (happenings : List (Happening C)) (end : E
   pub reads : ReadsResponse takes end asking response
   pub later : asked < taken
 
+-- What one end's IKE SA tells of itself in the request that it sends, its SPI, the value of its key exchange
+-- and its nonce, tells the request as well of which the other end's IKE SA was made. And what that one tells
+-- of itself in its answer, tells the response as well by which the first came to its keys. The octets that an
+-- end sends and those that come to the other may differ in everything else.
+pub record HaveIntroduced {C : Type 0} (happenings : List (Happening C)) (end : End) (asking answering : ℕ) : Type 0 where
+  pub initiator : Introduction
+  pub responder : Introduction
+  pub sent : Octets
+  pub came : Octets
+  pub answer : Octets
+  pub response : Octets
+  pub asked : ℕ
+  pub asks : Happening C
+  pub asks_there : slice_get happenings asked ≡ Some asks
+  pub sends : SendsRequest asks end asking sent
+  pub sent_says : SaysOfSender (λ (header : Header). header.spi_i) sent initiator
+  pub answered : ℕ
+  pub replies : Happening C
+  pub replies_there : slice_get happenings answered ≡ Some replies
+  pub answers : AnswersRequest replies (other_end end) answering came answer
+  pub came_says : SaysOfSender (λ (header : Header). header.spi_i) came initiator
+  pub answer_says : SaysOfSender (λ (header : Header). header.spi_r) answer responder
+  pub taken : ℕ
+  pub takes : Happening C
+  pub takes_there : slice_get happenings taken ≡ Some takes
+  pub reads : ReadsResponse takes end asking response
+  pub response_says : SaysOfSender (λ (header : Header). header.spi_r) response responder
+  pub later : asked < taken
+
 -- this end holds the IKE SA with this serial, under these keys
 pub record HoldsWith {C : Type 0} (w : WorldState C) (end : End) (serial : ℕ) (keys : KeyRecord) : Type 0 where
   pub association : Association
@@ -86,6 +117,6 @@ pub record HoldsWith {C : Type 0} (w : WorldState C) (end : End) (serial : ℕ) 
 -- keys (section 2.14).
 abbrev pub HoldOneRecord : {C : Type 0} → List (Happening C) → WorldState C → Type 0
 HoldOneRecord {C} happenings new =
-    (end : End) (asking answering : ℕ) → HaveExchanged happenings end asking answering
+    (end : End) (asking answering : ℕ) → HaveIntroduced happenings end asking answering
     → (one other : KeyRecord) → HoldsWith new end asking one → HoldsWith new (other_end end) answering other
     → one ≡ other

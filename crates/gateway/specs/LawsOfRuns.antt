@@ -1,10 +1,7 @@
--- What is promised of runs, over however many inputs and calls, and that what they ask for is met.
+-- What is promised of runs, over however many inputs and calls.
 use Rattle.std.specs.Prelude.{◌≡◌, ◌++◌, ℕ, Some, flat_map, slice_get, List}
-use Rattle.base.specs.Octets.{Octets}
 use Rattle.policy.specs.declared.entry.Entry.{Entry}
-use Rattle.suite.specs.declared.fresh.Fresh.{Fresh}
 use Rattle.suite.specs.declared.key_record.KeyRecord.{KeyRecord}
-use Rattle.setup.specs.Configs.{IsConfig}
 use Rattle.setup.specs.declared.config.Config.{Config}
 use Rattle.effects.specs.Taking.{Meaning}
 use Rattle.gateway.specs.Authentication.{IsEstablishedWith, ProvedItselfUpTo}
@@ -13,8 +10,6 @@ use Rattle.gateway.specs.Inputs.{Input}
 use Rattle.gateway.specs.Promises.{KeepsPromises}
 use Rattle.gateway.specs.Runs.{CallsAs, Runs, StepsAs}
 use Rattle.gateway.specs.States.{new_gateway, State}
-use Rattle.gateway.specs.Worked.{IsWorkedRun}
-use Rattle.gateway.specs.WorkedRequests.{IsWorkedRequest}
 use Rattle.gateway.specs.declared.output.Output.{Output}
 
 -- for any type of provider
@@ -63,15 +58,3 @@ module _ (C : Type 0) where
       (outputs : List (List Output)) (old new : State C)
       → Runs (CallsAs meaning_of) lists outputs old new
       → KeepsPromises meaning_of (flat_map (λ inputs. inputs) lists) (flat_map (λ list. list) outputs) old new
-
-  -- ---- the_premises_of_packets_are_met
-  abbrev pub ThePremisesOfPacketsAreMet : Type 0
-  ThePremisesOfPacketsAreMet = (meaning_of : C → Meaning) (config : Config) (caller : C)
-      → IsConfig config
-      → IsWorkedRun meaning_of config caller
-
-  -- ---- the_premises_of_requests_are_met
-  abbrev pub ThePremisesOfRequestsAreMet : Type 0
-  ThePremisesOfRequestsAreMet = (config : Config) (caller : C) (from : Octets) (fresh : Fresh)
-      → IsConfig config
-      → IsWorkedRequest config caller from fresh

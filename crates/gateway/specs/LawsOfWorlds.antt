@@ -1,17 +1,12 @@
 -- What holds of two gateways: what is stored of them, and their requests.
 use Rattle.std.specs.Prelude.{flat_map, ℕ, Bool, List}
 use Rattle.base.specs.Octets.{Octets}
-use Rattle.suite.specs.declared.fresh.Fresh.{Fresh}
 use Rattle.suite.specs.declared.key_record.KeyRecord.{KeyRecord}
-use Rattle.setup.specs.Configs.{IsConfig}
-use Rattle.setup.specs.declared.config.Config.{Config}
 use Rattle.effects.specs.Taking.{Meaning}
-use Rattle.ike.specs.Moves.{HasSeal}
 use Rattle.gateway.specs.Histories.{IsHistory}
 use Rattle.gateway.specs.Inputs.{Event}
 use Rattle.gateway.specs.Runs.{Runs, StepsAs}
 use Rattle.gateway.specs.States.{State}
-use Rattle.gateway.specs.WorkedWorlds.{IsWorkedWorld}
 use Rattle.gateway.specs.WorldHistories.{passages_at, Happening, IsWorldHistory, IsWorldTrail}
 use Rattle.gateway.specs.WorldParties.{HasSent, IsNeverMadeTwice, IsSoundUnder}
 use Rattle.gateway.specs.WorldPromises.{EndsAgree, IsUnforged, IsUnforgedByThen, KeepsWorldPromises, StaysSound}
@@ -81,13 +76,6 @@ module _ (C : Type 0) where
   EndsOfASoundWorldAgree = (keys : KeyRecord) (world : WorldState C)
       → IsSoundUnder keys world
       → EndsAgree keys world
-
-  -- ---- the_premises_of_two_ends_are_met
-  abbrev pub ThePremisesOfTwoEndsAreMet : Type 0
-  ThePremisesOfTwoEndsAreMet = (config : Config) (caller : C) (request reply from : Octets) (fresh : Fresh)
-      → IsConfig config
-      → HasSeal fresh
-      → IsWorkedWorld config caller request reply from fresh
 
 -- ---- every_world_stays_sound: the parts that speak of no provider
 abbrev pub WhatIsNotMadeTwiceWasNot : Type 0

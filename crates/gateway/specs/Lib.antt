@@ -30,9 +30,6 @@ pub mod Moments
 pub mod Authentication
 pub mod Packets
 pub mod Promises
-pub mod Worked
-pub mod WorkedRequests
-pub mod WorkedWorlds
 pub mod LawsOfPackets
 pub mod LawsOfSteps
 pub mod LawsOfOutputs

@@ -3,22 +3,14 @@
 -- and 4.4.2).
 use Rattle.std.specs.Prelude.{◌≡◌, ◌⊎◌, ℕ, Bool, true, false, List, [], ◌∷◌, Contains, Some, length}
 use Rattle.std.specs.FinMap as map
-use Rattle.base.specs.Octets.{AreOctets, Octets}
-use Rattle.wire.specs.Messages.{Spells}
-use Rattle.wire.specs.Payloads.{SpellsChain}
-use Rattle.wire.specs.declared.message.Header.{Header}
+use Rattle.base.specs.Octets.{Octets}
 use Rattle.wire.specs.declared.message.Message.{Message}
 use Rattle.wire.specs.declared.payload.Payload.{Payload}
 use Rattle.wire.specs.declared.proposal.Proposal.{Proposal}
-use Rattle.suite.specs.Sealing.{AreKeys}
 use Rattle.suite.specs.declared.key_record.KeyRecord.{KeyRecord}
 use Rattle.suite.specs.declared.keys.Keys.{Keys}
 use Rattle.exchange.specs.Counting.{only_sa}
-use Rattle.exchange.specs.Headers.{is_initiator, keys_of}
-use Rattle.exchange.specs.Sealed.{plain_of_message, IsSealed}
-use Rattle.exchange.specs.declared.headers.Role.{Role}
 use Rattle.exchange.specs.declared.headers.Role.TheVariants.{Initiator, Responder}
-use Rattle.exchange.specs.declared.sealed.Plain.{Plain}
 use Rattle.sadb.specs.declared.pair.Pair.{Pair}
 use Rattle.association.specs.AskedChildren.{asked_of}
 use Rattle.association.specs.Receiving.{Opening}
@@ -31,42 +23,11 @@ use Rattle.association.specs.declared.purpose.Purpose.TheVariants.{CreateChild}
 use Rattle.children.specs.Asking.{child_request, HasChildPayloads}
 use Rattle.further.specs.Payloads.{further_payloads}
 use Rattle.effects.specs.Children.{exchange_of_child, ChildKind, First, Further, IsChildOf}
+use Rattle.ike.specs.Payloads.{OpensToPayloads, SealsPayloads}
 use Rattle.gateway.specs.WorldParties.{HasSent, HoldsUnder}
 use Rattle.gateway.specs.Worlds.{other_end, simplex_of, Stored, WorldState}
 use Rattle.gateway.specs.declared.world.stored.Child.{Child}
 use Rattle.gateway.specs.declared.world.stored.End.{End}
-
--- ---- messages
-
--- the header is that of a request, or a response to one, of this exchange and number
-pub record IsHeaderOf (exchange : ℕ) (response : Bool) (number : ℕ) (h : Header) : Type 0 where
-  pub exchange_is : h.exchange ≡ exchange
-  pub response_is : h.flags.response ≡ response
-  pub number_is : h.id ≡ number
-
--- The octets are such a message, and seal these payloads under the keys of the end that sent it, as its
--- flag I says (RFC 7296 sections 3.1 and 3.14).
-pub record SealsPayloads (body_of : Keys → Octets → Octets → Octets → Octets) (keys : KeyRecord) (exchange : ℕ) (response : Bool) (number : ℕ) (payloads : List Payload) (octets : Octets) : Type 0 where
-  pub header : Header
-  pub header_is : IsHeaderOf exchange response number header
-  pub sender : Role
-  pub from_sender : header.flags.initiator ≡ is_initiator sender
-  pub keyed : AreKeys (keys_of sender keys)
-  pub fresh : Octets
-  pub fresh_octets : AreOctets fresh
-  pub fresh_long : length fresh ≡ 16
-  pub sealed : IsSealed body_of (keys_of sender keys) fresh (record { header = header; payloads = payloads }) octets
-
--- The octets are such a message, and open to these payloads under the keys of the end that sent it.
-pub record OpensToPayloads (plain_of : Opening) (keys : KeyRecord) (exchange : ℕ) (response : Bool) (number : ℕ) (payloads : List Payload) (octets : Octets) : Type 0 where
-  pub message : Message
-  pub spelled : Spells message octets
-  pub header_is : IsHeaderOf exchange response number message.header
-  pub sender : Role
-  pub from_sender : message.header.flags.initiator ≡ is_initiator sender
-  pub plain : Plain
-  pub opened : plain_of_message plain_of (keys_of sender keys) octets message.payloads ≡ Some plain
-  pub read : SpellsChain plain.first payloads plain.octets
 
 -- ---- Child SAs
 

@@ -8,7 +8,7 @@ use Rattle.suite.specs.declared.keys.Keys.{Keys}
 use Rattle.auth.specs.Windows.{peer_window}
 use Rattle.association.specs.Receiving.{Opening}
 use Rattle.association.specs.declared.phase.Association.{Association}
-use Rattle.gateway.specs.WorldChildren.{OpensToPayloads, SealsPayloads}
+use Rattle.ike.specs.Payloads.{OpensToPayloads, SealsPayloads}
 use Rattle.gateway.specs.WorldParties.{HasSent, HoldsUnder}
 use Rattle.gateway.specs.Worlds.{gateway_at, other_end, Stored, WorldState}
 use Rattle.gateway.specs.declared.world.stored.End.{End}

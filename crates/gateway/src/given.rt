@@ -1,13 +1,12 @@
 //! What an input's type and the cipher's law say of what the input leads to.
-ghost use Rattle.std.specs.Prelude.{◌≡◌, length, map};
-ghost use Rattle.base.specs.Octets.{AreOctets};
-ghost use Rattle.effects.specs.Lengths.{TellsLengths};
+ghost use Rattle.std.specs.Prelude.{map};
 ghost use Rattle.effects.specs.Taking.{meaning_of};
 ghost use Rattle.gateway.specs.Inputs.{input_view};
 ghost use Rattle.gateway.specs.Lengths.{AreGiven, IsGiven};
 
 use crate::Input;
-use exchange::laws::ciphers_tell_lengths;
+use ike::IkeInput;
+use ike::laws::inputs_tell_their_lengths;
 use suite::{Agreement, Proof, Sealer};
 
 /// A datagram is of octets, and with an input's fresh octets the length of a sealed body follows from that of
@@ -16,14 +15,30 @@ pub fn tells_its_lengths<C: Sealer + Agreement + Proof>(caller: &C, input: &Inpu
     ensures { IsGiven (meaning_of C.Sealer C.Agreement C.Proof caller.now) (input_view input.now) }
 {
     match *input {
-        Input::Ike { octets, fresh, .. } => {
-            are_octets(octets);
-            seals_at_one_length(caller, &fresh.seal);
+        Input::Ike {
+            from,
+            octets,
+            fresh,
+        } => {
+            let message = IkeInput::Message {
+                from,
+                octets,
+                fresh,
+            };
+            inputs_tell_their_lengths(caller, &message);
         }
-        Input::Start { fresh, .. }
-        | Input::Probe { fresh, .. }
-        | Input::DeleteChild { fresh, .. }
-        | Input::DeleteIke { fresh, .. } => seals_at_one_length(caller, &fresh.seal),
+        Input::Start { ike, entry, fresh } => {
+            inputs_tell_their_lengths(caller, &IkeInput::Start { ike, entry, fresh });
+        }
+        Input::Probe { ike, fresh } => {
+            inputs_tell_their_lengths(caller, &IkeInput::Probe { ike, fresh });
+        }
+        Input::DeleteChild { child, fresh } => {
+            inputs_tell_their_lengths(caller, &IkeInput::DeleteChild { child, fresh });
+        }
+        Input::DeleteIke { ike, fresh } => {
+            inputs_tell_their_lengths(caller, &IkeInput::DeleteIke { ike, fresh });
+        }
         _ => {}
     }
 }
@@ -35,19 +50,4 @@ pub fn tell_their_lengths<C: Sealer + Agreement + Proof>(caller: &C, inputs: &[I
     for input in inputs {
         tells_its_lengths(caller, input);
     }
-}
-
-// Tells of the items of a slice what their type does. Does nothing.
-fn are_octets(octets: &[u8])
-    ensures { AreOctets octets.now }
-{
-    let _ = octets;
-}
-
-// With 16 fresh octets the length of a sealed body follows from that of its plain text. Does nothing.
-fn seals_at_one_length<C: Sealer>(caller: &C, seal: &[u8; 16])
-    ensures { TellsLengths C.body_of seal.now }
-{
-    ciphers_tell_lengths(caller);
-    are_octets(seal);
 }

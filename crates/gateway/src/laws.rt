@@ -18,8 +18,7 @@ pub use packets::{
 };
 pub use runs::{
     every_run_keeps_its_promises, runs_in_a_row_are_one_run,
-    the_established_of_new_gateways_proved_themselves, the_premises_of_packets_are_met,
-    the_premises_of_requests_are_met, what_every_gateway_has_stays,
+    the_established_of_new_gateways_proved_themselves, what_every_gateway_has_stays,
 };
 pub use steps::{
     nothing_comes_before_the_next_moment, refusals_change_nothing, steps_are_determined,
@@ -34,5 +33,5 @@ pub use together::{
 };
 pub use worlds::{
     each_end_has_its_events, ends_of_a_sound_world_agree, every_world_stays_sound,
-    the_premises_of_two_ends_are_met, what_is_stored_stays,
+    what_is_stored_stays,
 };

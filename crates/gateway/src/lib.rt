@@ -239,7 +239,7 @@
 //! with `MirrorLemmas` and what [`traffic`] says of mirrored pairs. `World` reserves all memory before a
 //! step that may send (`FittingLemmas`), so nothing that was sent is lost; of the others there is nothing to
 //! store (`StoringLemmas`). That what goes up had been sealed before it came is the promise of the list up to
-//! that step (`OriginLemmas`). The files `Worked..` show that the assumptions can be met.
+//! that step (`OriginLemmas`).
 #![tactic(auto)]
 
 mod ahead;
@@ -263,7 +263,7 @@ pub use association::{Association, MessageFault};
 pub use auth::{Identity, IdentityFault};
 pub use base::{Address, Items, PrefixFault, Range, Selector};
 pub use children::MemoryFault;
-pub use esp::EspFault;
+pub use esp::{EspFault, Precomputed};
 pub use fault::{Reason, RunFault};
 pub use ike::{IkeFault, MadeChild, Mark, Trace};
 pub use input::Input;
@@ -273,9 +273,9 @@ pub use output::{Output, Traced};
 pub use policy::{Action, Entry, InnerFault, Policy, PolicyFault};
 pub use row::Span;
 pub use running::run;
-pub use sadb::{Pair, SpiFault, Table, first_spi};
+pub use sadb::{Pair, SpiFault, State, Table, first_spi};
 pub use setup::{Config, ConfigFault, EndConfig};
-pub use suite::{Agreement, Fresh, KeyRecord, Proof, Sealer};
+pub use suite::{Agreement, Cipher, Fresh, KeyRecord, Keys, Proof, Sealer};
 pub use traffic::{Arrival, Laid, PacketFault};
 pub use transmit::{Datagrams, Transmit};
 pub use wire::WireFault;

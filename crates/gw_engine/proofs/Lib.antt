@@ -1,3 +1,4 @@
 mod EndingLemmas
 mod SayingLemmas
+mod ScriptLemmas
 mod ShowingLemmas

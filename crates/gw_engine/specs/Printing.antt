@@ -1,9 +1,10 @@
 -- What goes out while a script is played, and how that ends.
-use Rattle.std.specs.Prelude.{◌≡◌, ◌≤◌, ℕ, List, [], ◌∷◌, ◌++◌, length, slice_get, Option, Some, Result, Ok, Err}
+use Rattle.std.specs.Prelude.{◌≡◌, ◌⊎◌, ◌≤◌, ⊤, ℕ, List, [], ◌∷◌, ◌++◌, length, slice_get, Option, Some, Result, Ok, Err}
 use Rattle.std.specs.Io.KnownBytes.{Appends}
 use Rattle.gw_script.specs.declared.fault.LineFault.{LineFault}
 use Rattle.gw_script.specs.declared.fault.LineFault.TheVariants as fault
 use Rattle.gw_script.specs.declared.lines.Line.{Line}
+use Rattle.gw_console.specs.Status.{exit_code}
 use Rattle.gw_console.specs.declared.status.Status.{Status}
 use Rattle.gw_engine.specs.Ends.{status_of, EndsWith}
 use Rattle.gw_engine.specs.declared.stop.Stop.{Stop}
@@ -70,3 +71,27 @@ pub record Plays {M : Type 0} (says : M → List ℕ → List ℕ → M → Type
   pub prints : Prints says refuses machine behind lines outcome old printed
   pub status_is : status ≡ status_of outcome
   pub ends : EndsWith outcome printed new
+
+-- whatever a machine says or refuses
+abbrev pub says_anything : ⊤ → List ℕ → List ℕ → ⊤ → Type 0
+says_anything machine line text next = ⊤
+
+abbrev pub refuses_anything : ⊤ → List ℕ → LineFault → ⊤ → Type 0
+refuses_anything machine line why next = ⊤
+
+-- A script is played, line by line, whatever its machine says: all that it says goes out in turn, or a beginning
+-- of that, as `Plays` has it.
+pub record PlaysItsLines (code : ℕ) (old new : Option (List ℕ)) : Type 0 where
+  pub lines : List Line
+  pub status : Status
+  pub code_is : code ≡ exit_code status
+  pub plays : Plays says_anything refuses_anything tt tt lines status old new
+
+-- It stops before a line is played, and the line that tells why goes out, or a beginning of that.
+pub record StopsUnplayed (code : ℕ) (old new : Option (List ℕ)) : Type 0 where
+  pub why : Stop
+  pub code_is : code ≡ exit_code (status_of (Err why))
+  pub ends : EndsWith (Err why) old new
+
+abbrev pub PlaysScript : ℕ → Option (List ℕ) → Option (List ℕ) → Type 0
+PlaysScript code old new = PlaysItsLines code old new ⊎ StopsUnplayed code old new

@@ -3,10 +3,12 @@ use Rattle.std.proofs.Common.{◌≡◌, inl, inr, ℕ, List, Option, Some, None
 use Rattle.std.specs.Prelude.{option_and_then}
 use Rattle.base.specs.Octets.{Octets}
 use Rattle.policy.specs.declared.entry.Entry.{Entry}
+use Rattle.wire.specs.Messages.{SpellsPlainly}
 use Rattle.wire.specs.declared.message.Message.{Message}
 use Rattle.sadb.specs.Database.{Database}
 use Rattle.association.specs.Phases.{keys_in}
 use Rattle.association.specs.declared.phase.Association.{Association}
+use Rattle.sa_init.specs.Messages.{answer_message}
 use Rattle.setup.specs.Configs.{Setup}
 use Rattle.effects.specs.Taking.{Meaning, KeepsIdentity, TakesMessage}
 use Rattle.effects.specs.declared.taking.Effect.{Effect}
@@ -40,7 +42,7 @@ no_octets : (octets : Octets) → None ≡ Some octets → ⊥
 no_octets octets is = cc
 
 rested_clear : (old new : Held) (said : IkeOutput) → GoesOut old said → new ≡ old → Clear old (plain_step said) new
-rested_clear old new (output.Reply octets None) goes same = λ sent none out. (refl, inl same)
+rested_clear old new (output.Reply octets None) goes same = λ sent none out. (goes.0, refl, inl same)
 rested_clear old new (output.Reply octets (Some closed)) goes same = absurd goes
 rested_clear old new (output.Repeat octets) goes same = λ sent none out. record { place = goes.place; association = goes.association; there = goes.there; kept = goes.kept }
 rested_clear old new (output.Request ike octets) goes same = absurd goes
@@ -79,7 +81,19 @@ way_clear : (laws : ClearLaws) (meaning : Meaning) (setup : Setup) (octets : Oct
     → AreSound old table → Way meaning setup octets old table stepped new new_table → Clear old stepped new
 way_clear laws meaning setup octets old table stepped new new_table sound (rested is) = subst (λ (s : Stepped). Clear old s new) (sym is.is) (rested_clear old new is.said is.goes is.same)
 way_clear laws meaning setup octets old table stepped new new_table sound (took is) = took_clear laws meaning setup octets old table stepped new new_table sound is
-way_clear laws meaning setup octets old table stepped new new_table sound (admitted is) = subst (λ (s : Stepped). Clear old s new) (sym is.admits.said) (λ sent none out. (refl, inr refl))
+way_clear laws meaning setup octets old table stepped new new_table sound (admitted is) = subst (λ (s : Stepped). Clear old s new) (sym is.admits.said)
+    (λ sent none out. (
+      record {
+        message = answer_message meaning.cipher meaning.group (meaning.public_value setup.fresh.secret) is.offer.chosen setup.fresh.nonce is.spi_i setup.fresh.spi;
+        spelled =
+            subst (λ (o : Octets). SpellsPlainly (answer_message meaning.cipher meaning.group (meaning.public_value setup.fresh.secret) is.offer.chosen setup.fresh.nonce is.spi_i setup.fresh.spi) o)
+            (sym is.admits.admits.octets) is.admits.admits.answer.spelled;
+        exchange = refl;
+        response = refl;
+      },
+      refl,
+      inr refl,
+    ))
 way_clear laws meaning setup octets old table stepped new new_table sound (started is) =
     let s = is.starts in
     subst (λ (x : Stepped). Clear old x new) (sym s.done.said) (λ sent none out.

@@ -12,7 +12,6 @@ use Rattle.suite.specs.Callers.{IsSecret}
 use Rattle.suite.specs.declared.fresh.Fresh.{Fresh}
 use Rattle.suite.specs.declared.key_record.KeyRecord.{KeyRecord}
 use Rattle.suite.specs.declared.keys.Keys.{Keys}
-use Rattle.suite.specs.declared.sealer.Cipher.{Cipher}
 use Rattle.exchange.specs.declared.sealed.Plain.{Plain}
 use Rattle.sadb.specs.Database.{Database}
 use Rattle.sa_init.specs.Cookies.{CookieSecrets}
@@ -20,9 +19,8 @@ use Rattle.sa_init.specs.Judging.{Accepted, Answered, Full, Incomplete, Judgemen
 use Rattle.sa_init.specs.Parts.{HasParts, PartsView}
 use Rattle.sa_init.specs.declared.response.Response.{Response}
 use Rattle.sa_init.specs.declared.response.Response.TheVariants as response
-use Rattle.auth.specs.Proofs.{Accepts}
 use Rattle.association.specs.Phases.{keys_in}
-use Rattle.association.specs.Receiving.{Answers, AnswersInitial, Opening, Reception, Refused, Repeat, TakesEffect}
+use Rattle.association.specs.Receiving.{Answers, AnswersInitial, Reception, Refused, Repeat, TakesEffect}
 use Rattle.association.specs.declared.fault.MessageFault.{MessageFault}
 use Rattle.association.specs.declared.phase.Association.{Association}
 use Rattle.association.specs.declared.phase.InitSent.{InitSent}

@@ -9,6 +9,7 @@ use Rattle.effects.specs.Taking.{Meaning}
 use Rattle.ike.specs.LawsOfChildren.{ChildrenAreExtendedWhereAllowed, ChildrenAreMadeOfTheirMessages, ChildrenHaveFewSelectors, FirstAnswersKeepToTheirOffers, OtherAnswersHaveNoSa, SealedAnswersKeepToTheirOffers}
 use Rattle.ike.specs.LawsOfOutputs.{TracesNameWhatIsHeld, WhatIsNotNamedIsInClear}
 use Rattle.ike.specs.LawsOfPeers.{NoAssociationWithoutACookie, TheEstablishedProvedThemselves}
+use Rattle.ike.specs.LawsOfRequests.{NumbersTakeEffectByTheirDatagramAlone}
 use Rattle.ike.specs.LawsOfSteps.{OneAssociationIsChanged, StepsAreMoves, StepsKeepTheirLaws}
 use Rattle.ike.specs.Machines.{Machine}
 use Rattle.ike.specs.Soundness.{IsSoundMachine}
@@ -16,9 +17,11 @@ use Rattle.ike.specs.StepLaws.{KeepsLawsOfDatagrams, StepsByLaws}
 use Rattle.ike.specs.Steps.{InputView, Message, Steps}
 use Rattle.ike.specs.declared.fault.IkeFault.{IkeFault}
 use Rattle.ike.specs.declared.output.Stepped.{Stepped}
+use Rattle.ike.proofs.UndeletedLemmas.{command_asks}
 
 pub record Laws : Type 0 where
   pub moves : StepsAreMoves
+  pub in_effect : NumbersTakeEffectByTheirDatagramAlone
   pub established : TheEstablishedProvedThemselves
   pub traced : TracesNameWhatIsHeld
   pub clear : WhatIsNotNamedIsInClear
@@ -51,6 +54,8 @@ datagram_lawful laws meaning entries from octets fresh old table stepped new new
 pub step_lawful : Laws → StepsKeepTheirLaws
 step_lawful laws meaning entries input old table stepped new new_table sound_table sound is = record {
   moves = λ serial. laws.moves meaning entries input old table stepped new new_table serial sound is;
+  in_effect = λ serial a b number through comes. laws.in_effect meaning entries input old table stepped new new_table serial a b number sound is through comes;
+  undeleted = command_asks meaning entries input old table stepped new new_table sound.held is;
   established = λ ike a keys there established. laws.established meaning entries input old table stepped new new_table ike a keys sound is there established;
   traced = laws.traced meaning entries input old table stepped new new_table sound_table sound is;
   clear = λ octets unnamed goes. laws.clear meaning entries input old table stepped new new_table octets sound is unnamed goes;

@@ -47,3 +47,7 @@ mod RecordLemmas
 mod KeysComeLemmas
 mod OfferedLemmas
 mod ToldLemmas
+mod OnceLemmas
+mod OpenLemmas
+mod IntroductionLemmas
+mod UndeletedLemmas

@@ -34,7 +34,7 @@ use Rattle.ike.specs.Outputs.{stepped_of}
 use Rattle.ike.specs.Receiving.{with_next}
 use Rattle.ike.specs.Starting.{child_by}
 use Rattle.ike.specs.Steps as steps
-use Rattle.ike.specs.Steps.{is_tick, InputView, KeepsRest, Steps}
+use Rattle.ike.specs.Steps.{is_tick, InputView, Steps}
 use Rattle.ike.specs.declared.output.IkeOutput.{IkeOutput}
 use Rattle.ike.specs.declared.output.IkeOutput.TheVariants as output
 use Rattle.ike.specs.declared.output.Stepped.{Stepped}

@@ -13,7 +13,7 @@ use Rattle.sa_init.specs.Reading.{IsResponse}
 use Rattle.sa_init.specs.declared.response.Response.{Response}
 use Rattle.sa_init.specs.declared.response.Response.TheVariants as response
 use Rattle.association.specs.Phases.{keys_in}
-use Rattle.association.specs.Receiving.{admits, fresh_reception, judged_reception, opened_by, repeated_reception, Answers, AnswersInitial, IsReceivedBy, IsReceivedRequest, Opening, Reception, Refused, Repeat, TakesEffect}
+use Rattle.association.specs.Receiving.{admits, fresh_reception, judged_reception, opened_by, repeated_reception, Answers, AnswersInitial, IsReceivedBy, Opening, Reception, Refused, Repeat, TakesEffect}
 use Rattle.association.specs.declared.fault.MessageFault.{MessageFault}
 use Rattle.association.specs.declared.fault.MessageFault.TheVariants.{WrongPhase}
 use Rattle.association.specs.declared.phase.Association.{Association}
@@ -28,9 +28,8 @@ use Rattle.initial.specs.declared.reading.Continued.{Continued}
 use Rattle.initial.specs.declared.reading.Continued.TheVariants as continued
 use Rattle.requests.specs.declared.incoming.Judgement.{Judgement}
 use Rattle.requests.specs.declared.incoming.Judgement.TheVariants as judged
-use Rattle.moments.specs.Holding.{HoldsOn}
 use Rattle.effects.specs.LawsOfRequests.{TheHalfOpenWereSoBefore}
-use Rattle.effects.specs.Taking.{asker_of, Does, DoesInitial, DoesRequest, DoesResponse, KeepsIdentity, Meaning, TakesMessage}
+use Rattle.effects.specs.Taking.{asker_of, Does, DoesInitial, DoesRequest, DoesResponse, Meaning}
 use Rattle.effects.specs.declared.taking.Effect.{Effect}
 use Rattle.effects.specs.declared.taking.Effect.TheVariants as effect
 use Rattle.ike.specs.Before.{ByMessage, ByOrder, ByTick, How, ReadsNow, Same}

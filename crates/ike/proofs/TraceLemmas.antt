@@ -96,7 +96,7 @@ short_one : (said octets : Octets) → IsShort said → Some said ≡ Some octet
 short_one said octets short e = subst (λ (o : Octets). IsShort o) (same_out said octets e) short
 
 rests_short : (old : Held) (table : Database) (said : IkeOutput) → AreSound old table → GoesOut old said → IsShortOutput (plain_step said)
-rests_short old table (output.Reply octets None) sound goes = λ o e. short_one octets o goes e
+rests_short old table (output.Reply octets None) sound goes = λ o e. short_one octets o goes.1 e
 rests_short old table (output.Reply octets (Some closed)) sound goes = absurd goes
 rests_short old table (output.Repeat octets) sound goes = λ o e. short_one octets o ((sound.each goes.place goes.association goes.there).short.first octets goes.kept) e
 rests_short old table (output.Request ike octets) sound goes = absurd goes

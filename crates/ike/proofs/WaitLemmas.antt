@@ -23,7 +23,7 @@ use Rattle.initial.specs.declared.beginning.Beginning.{Beginning}
 use Rattle.effects.specs.Sending.{SendsRequest}
 use Rattle.effects.specs.Taking.{Meaning, KeepsIdentity, TakesMessage}
 use Rattle.effects.specs.Requests.{IsSoundlyHeld}
-use Rattle.effects.specs.Waiting.{asked_by, ClosesAssociation, StartsWaiting, KeepTimers, WaitUntil}
+use Rattle.effects.specs.Waiting.{asked_by, ClosesAssociation, KeepTimers, WaitUntil}
 use Rattle.effects.specs.Waiting as effects
 use Rattle.effects.specs.declared.taking.Effect.{Effect}
 use Rattle.effects.specs.declared.taking.Effect.TheVariants as effect

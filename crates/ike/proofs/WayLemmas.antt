@@ -27,6 +27,7 @@ use Rattle.ike.specs.Orders.{OrderView}
 use Rattle.ike.specs.Orders as orders
 use Rattle.ike.specs.Starting.{BeginsBy, FurthersBy}
 use Rattle.ike.specs.Ticking.{TakesHeld}
+use Rattle.ike.specs.Tracing.{IsFirstResponse}
 use Rattle.ike.specs.Steps.{is_tick, InputView, Steps}
 use Rattle.ike.specs.Steps as steps
 use Rattle.ike.specs.declared.fault.IkeFault.{IkeFault}
@@ -43,7 +44,7 @@ pub record IsKept (old : Held) (octets : Octets) : Type 0 where
 
 -- what goes out where nothing changes: a notification, a reply that is kept, or nothing
 abbrev pub GoesOut : Held → IkeOutput → Type 0
-GoesOut old (output.Reply octets None) = IsShort octets
+GoesOut old (output.Reply octets None) = IsFirstResponse octets × IsShort octets
 GoesOut old (output.Reply octets (Some closed)) = ⊥
 GoesOut old (output.Repeat octets) = IsKept old octets
 GoesOut old (output.Request ike octets) = ⊥
@@ -154,7 +155,7 @@ passed_came meaning setup octets reason old table stepped new new_table is same 
 judged_came : (meaning : Meaning) (setup : Setup) (octets : Octets) (m : Message) (j : JudgementView) (old : Held) (table : Database) (stepped : Stepped) (new : Held) (new_table : Database)
     → IsInitialRequest octets → DoesJudgement meaning setup m.header.spi_i octets j old stepped new → new_table ≡ table → Came meaning setup octets old table stepped new new_table
 judged_came meaning setup octets m (Answered notice) old table stepped new new_table asked is same =
-    stood (record { said = output.Reply is.0.octets None; is = is.0.said; goes = is.0.spelled.limit; same = is.1; pairs = same })
+    stood (record { said = output.Reply is.0.octets None; is = is.0.said; goes = (record { message = _; spelled = is.0.spelled; exchange = refl; response = refl }, is.0.spelled.limit); same = is.1; pairs = same })
 judged_came meaning setup octets m Incomplete old table stepped new new_table asked is same = passed_came meaning setup octets _ old table stepped new new_table is same
 judged_came meaning setup octets m Full old table stepped new new_table asked is same = passed_came meaning setup octets _ old table stepped new new_table is same
 judged_came meaning setup octets m (Accepted offer) old table stepped new new_table asked is same =

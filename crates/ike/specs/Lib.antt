@@ -34,4 +34,6 @@ pub mod LawsOfPeers
 pub mod LawsOfRequests
 pub mod LawsOfTimes
 pub mod Orders
+pub mod Once
+pub mod Payloads
 pub mod Datagrams

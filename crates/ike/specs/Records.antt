@@ -1,5 +1,5 @@
 -- How each end of an IKE SA comes to its keys in IKE_SA_INIT (RFC 7296 sections 1.2 and 2.14).
-use Rattle.std.specs.Prelude.{◌≡◌, ℕ, Option, Some}
+use Rattle.std.specs.Prelude.{◌≡◌, ℕ, Bool, Option, Some}
 use Rattle.base.specs.Octets.{Octets}
 use Rattle.wire.specs.Messages.{Spells}
 use Rattle.wire.specs.declared.message.Header.{Header}
@@ -24,6 +24,10 @@ pub record Introduction : Type 0 where
   pub spi : ℕ
   pub public : Octets
   pub nonce : Octets
+
+-- what it says by its SPI, its secret and its nonce
+abbrev pub introduced : (Octets → Octets) → ℕ → Octets → Octets → Introduction
+introduced public_value spi secret nonce = record { spi = spi; public = public_value secret; nonce = nonce }
 
 -- an initiator that agrees on keys as a caller of this type does, whatever else it means
 abbrev pub agreeing_by : {C : Type 0} → Agreement.Ghosts C → Asker → Asker
@@ -75,3 +79,8 @@ pub record SaysOfSender (spi_of : Header → ℕ) (octets : Octets) (sender : In
   pub parts : PartsView
   pub complete : HasParts message.payloads parts
   pub is : sender ≡ record { spi = spi_of message.header; public = parts.public; nonce = parts.nonce }
+
+-- the octets are a request of IKE_SA_INIT or a response to one, by this flag, and say this of their sender
+pub record Introduces (spi_of : Header → ℕ) (response : Bool) (octets : Octets) (sender : Introduction) : Type 0 where
+  pub says : SaysOfSender spi_of octets sender
+  pub flag : says.message.header.flags.response ≡ response

@@ -9,20 +9,22 @@ use Rattle.suite.specs.declared.key_record.KeyRecord.{KeyRecord}
 use Rattle.sa_init.specs.Judging.{COOKIE_THRESHOLD}
 use Rattle.sadb.specs.Database.{pair_at, Database}
 use Rattle.sadb.specs.declared.pair.Pair.{Pair}
+use Rattle.association.specs.Purposes.{AwaitsDeletion}
 use Rattle.association.specs.declared.phase.Association.{Association}
 use Rattle.association.specs.declared.phase.Phase.TheVariants as phase
 use Rattle.effects.specs.Taking.{Meaning}
 use Rattle.children.specs.Pairs.{HasFewSelectors}
 use Rattle.ike.specs.Children.{MakesChildOf}
 use Rattle.ike.specs.LawCases.{StepCase}
-use Rattle.ike.specs.Machines.{association_of, half_open_count, setup_at, Machine}
+use Rattle.ike.specs.Machines.{association_of, half_open_count, setup_at, Held, Machine}
 use Rattle.ike.specs.Moves.{MovesAt}
 use Rattle.ike.specs.Outputs.{octets_in}
 use Rattle.ike.specs.Offers.{AnswersFirstOffer, AnswersNoOffer, AnswersSealedOffer}
 use Rattle.ike.specs.Pairs.{ChangesOne}
 use Rattle.ike.specs.Proving.{WasKnown}
 use Rattle.ike.specs.Reaching.{WasReached}
-use Rattle.ike.specs.Steps.{is_tick, InputView, Message}
+use Rattle.ike.specs.Requests.{ComesIntoEffect, IsAnswered, IsHeldThrough, IsNewRequest}
+use Rattle.ike.specs.Steps.{is_command, is_tick, InputView, Message}
 use Rattle.ike.specs.Tracing.{IsInClear, IsTraced}
 use Rattle.ike.specs.declared.output.IkeOutput.TheVariants as output
 use Rattle.ike.specs.declared.output.MadeChild.{MadeChild}
@@ -54,10 +56,23 @@ pub record KeepsLawsOfDatagrams (from octets : Octets) (fresh : Fresh) (it : Ste
       → half_open_count it.old.held.associations < half_open_count it.new.held.associations
       → WasReached it.old.cookies from octets
 
+-- the IKE SA under which a request goes out does not wait for the answer to its own deletion
+abbrev pub AsksWhileNotDeleting : Held → Stepped → Type 0
+AsksWhileNotDeleting old stepped = (serial : ℕ) (octets : Octets) (a : Association)
+    → stepped.output ≡ output.Request serial octets
+    → association_of serial old.associations ≡ Some a
+    → ¬ AwaitsDeletion a.outgoing
+
 -- What holds of a step.
 pub record KeepsLaws (it : StepCase) : Type 0 where
   -- of each IKE SA with keys: at most two moves, and nothing is told beside them
   pub moves : (serial : ℕ) → MovesAt it.meaning it.input it.old.held it.stepped it.new.held serial
+  -- a request of the peer comes into effect by its own datagram alone, and is answered (sections 2.1 to 2.3)
+  pub in_effect : (serial : ℕ) (a b : Association) (number : ℕ)
+      → IsHeldThrough serial it.old.held it.new.held a b → ComesIntoEffect number a b
+      → IsNewRequest it.meaning it.input a number × IsAnswered it.stepped number b
+  -- after a request to delete the IKE SA no command sends another one under it (section 1.4.1)
+  pub undeleted : is_command it.input ≡ true → AsksWhileNotDeleting it.old.held it.stepped
   -- who is established was so before this step under the same keys, or proves the configured peer's identity
   -- now (section 2.15)
   pub established : (ike : ℕ) (a : Association) (keys : KeyRecord)
@@ -65,7 +80,7 @@ pub record KeepsLaws (it : StepCase) : Type 0 where
       → WasKnown it.meaning it.entries it.input it.old ike keys
   -- what the trace names came now, and the keys and the pair that came are named
   pub traced : IsTraced it.old.held it.table it.stepped it.new.held it.new_table
-  -- what goes out and isn't named is in clear: of an IKE SA without keys, or an answer to IKE_SA_INIT
+  -- what goes out and isn't named is in clear: of an IKE SA without keys, or a response of IKE_SA_INIT
   pub clear : (octets : Octets) → it.stepped.trace.sent ≡ None → octets_in it.stepped.output ≡ Some octets
       → IsInClear it.old.held it.stepped.trace.keyed it.new.held it.stepped.output
   -- but for a tick one IKE SA is changed, and pairs of no other

@@ -43,6 +43,13 @@ abbrev pub is_tick : InputView → Bool
 is_tick (Tick moment) = true
 is_tick _ = false
 
+-- The input is a command of the caller's: to bring up an IKE SA or a Child SA, for a liveness check, or to
+-- delete one.
+abbrev pub is_command : InputView → Bool
+is_command (Start ike place fresh) = true
+is_command (Order what fresh) = true
+is_command _ = false
+
 -- the list of IKE SAs may change, and nothing else
 abbrev pub KeepsRest : Machine → Machine → Type 0
 KeepsRest old new = new ≡ record old { held = new.held }

@@ -1,6 +1,9 @@
 -- What the trace of a step names (RFC 7296 section 2.14, RFC 4301 section 4.4.2).
-use Rattle.std.specs.Prelude.{◌≡◌, ◌⊎◌, ℕ, Option, Some, None, IsSome, slice_get}
+use Rattle.std.specs.Prelude.{◌≡◌, ◌⊎◌, true, ℕ, Option, Some, None, IsSome, slice_get}
 use Rattle.base.specs.Octets.{Octets}
+use Rattle.wire.specs.Messages.{SpellsPlainly}
+use Rattle.wire.specs.Numbers.{IKE_SA_INIT}
+use Rattle.wire.specs.declared.message.Message.{Message}
 use Rattle.suite.specs.declared.key_record.KeyRecord.{KeyRecord}
 use Rattle.sadb.specs.Database.{pair_at, Database}
 use Rattle.sadb.specs.declared.pair.Pair.{Pair}
@@ -63,11 +66,18 @@ pub record KeepsFirstReply (held : Held) (octets : Octets) : Type 0 where
   pub there : slice_get held.associations place ≡ Some association
   pub kept : kept_reply association.phase ≡ Some octets
 
+-- the octets are a response of IKE_SA_INIT
+pub record IsFirstResponse (octets : Octets) : Type 0 where
+  pub message : Message
+  pub spelled : SpellsPlainly message octets
+  pub exchange : message.header.exchange ≡ IKE_SA_INIT
+  pub response : message.header.flags.response ≡ true
+
 -- What is sent in clear: a request of an IKE SA that has no keys yet, the response that a half-open one
--- keeps, or an answer to IKE_SA_INIT. By the last keys are made, or nothing changes (RFC 7296 sections 1.2
--- and 2.6).
+-- keeps, or a new response of IKE_SA_INIT. With the last keys are made, or nothing changes (RFC 7296
+-- sections 1.2 and 2.6).
 abbrev pub IsInClear : Held → Option ℕ → Held → IkeOutput → Type 0
-IsInClear old keyed new (Reply octets closed) = (closed ≡ None) × ((new ≡ old) ⊎ IsSome keyed)
+IsInClear old keyed new (Reply octets closed) = IsFirstResponse octets × (closed ≡ None) × ((new ≡ old) ⊎ IsSome keyed)
 IsInClear old keyed new (Repeat octets) = KeepsFirstReply old octets
 IsInClear old keyed new (Request ike octets) = keys_of_serial ike new.associations ≡ None
 IsInClear old keyed new o = ⊥

@@ -52,15 +52,16 @@ mod ticking;
 
 // What calls of this crate take and give, so that who uses them needs to name no other crate.
 pub use association::{Association, MessageFault};
-pub use base::Items;
+pub use auth::{Identity, IdentityFault};
+pub use base::{Address, Items, PrefixFault, Range};
 pub use children::MemoryFault;
 pub use fault::IkeFault;
 pub use input::IkeInput;
 pub use machine::Ike;
 pub use moments::{Resent, Ticked};
 pub use output::{IkeOutput, MadeChild, Mark, Stepped, Trace};
-pub use policy::Policy;
-pub use sadb::Table;
-pub use setup::{Config, EndConfig};
-pub use suite::{Agreement, Fresh, KeyRecord, Proof, Sealer};
+pub use policy::{Action, Entry, Policy, PolicyFault};
+pub use sadb::{SpiFault, Table, first_spi};
+pub use setup::{Config, ConfigFault, EndConfig};
+pub use suite::{Agreement, Cipher, Fresh, KeyRecord, Keys, Proof, Sealer};
 pub use wire::WireFault;

@@ -8,6 +8,7 @@ ghost use Rattle.ike.specs.Moments.{IsTimely};
 ghost use Rattle.ike.specs.Outputs.{plain_step};
 ghost use Rattle.sa_init.specs.Cookies.{changed};
 ghost use Rattle.ike.specs.Soundness.{IsSoundMachine};
+ghost use Rattle.ike.specs.Once.{IsRefusedAlike, IsTakenAlike};
 ghost use Rattle.ike.specs.StepLaws.{StepsByLaws};
 ghost use Rattle.ike.specs.Steps.{input_view, Refuses, Steps};
 ghost use Rattle.effects.specs.Taking.{meaning_of};
@@ -15,7 +16,10 @@ ghost use Rattle.moments.specs.Next.{NothingIsDueBefore, SomethingIsDue};
 
 use crate::asking::{ask_by, delete_child};
 use crate::held::{Held, association_of};
-use crate::laws::{soundness_stays, steps_keep_their_laws};
+use crate::laws::{
+    inputs_tell_their_lengths, keys_stay_whole, soundness_stays, steps_are_determined,
+    steps_keep_their_laws,
+};
 use crate::receiving::take_datagram;
 use crate::starting::start;
 use crate::ticking::take_moment;
@@ -132,6 +136,9 @@ impl Ike {
     /// says what every step keeps to: its moves, who is established, what the trace names and what goes in
     /// clear, of what a child is made, what an answer may hold, that one IKE SA is changed but for a
     /// tick, and that under load no datagram makes a half-open one without a right cookie.
+    ///
+    /// Given once more, or to another machine with its table that hold the same, an input has the same result
+    /// and leaves the same, unless memory runs out (`determined`, `refused_alike`).
     pub fn step<C: Sealer + Agreement + Proof>(
         &mut self,
         alloc: Global,
@@ -151,11 +158,20 @@ impl Ike {
         ensures laws { IfOk result (λ stepped. StepsByLaws
             (meaning_of C.Sealer C.Agreement C.Proof caller.now)
             policy.now (input_view input.now) self.old table.old stepped self.new table.new) }
+        ensures determined { IfOk result (λ stepped. IsTakenAlike
+            (meaning_of C.Sealer C.Agreement C.Proof caller.now)
+            policy.now (input_view input.now) self.old table.old stepped self.new table.new) }
+        ensures refused_alike { IfErr result (λ reason. IsRefusedAlike
+            (meaning_of C.Sealer C.Agreement C.Proof caller.now)
+            policy.now (input_view input.now) self.old table.old reason) }
         ensures sound { IsSoundMachine self.new table.new }
     {
         table.invariants_hold();
         soundness_stays();
         steps_keep_their_laws();
+        steps_are_determined();
+        keys_stay_whole();
+        inputs_tell_their_lengths(caller, input);
         self.take(alloc, input, table, policy, caller)
     }
 

@@ -29,7 +29,7 @@ use Rattle.gateway.specs.declared.world.stored.End.{End}
 use Rattle.gateway.proofs.AlongLemmas.{after_here, after_there, each_end}
 use Rattle.gateway.proofs.BeforeLemmas.{none_some, same_one}
 use Rattle.gateway.proofs.ChildLemmas.{way_of}
-use Rattle.laws_authenticated.proofs.Nonces.{EachNonceIsOfOne}
+use Rattle.laws_authenticated.proofs.Nonces.{EachNonceIsOfOne, HasNonce}
 use Rattle.laws_authenticated.specs.DrawnNonces.{DrawsNonce, EachNonceIsDrawnOnce}
 use Rattle.laws_authenticated.proofs.PartnerLemmas.{PartnerLaws}
 
@@ -174,12 +174,29 @@ module _ {C : Type 0} (laws : PartnerLaws) (meaning_of : C → Meaning) (hs : Li
   drawn : (place : ℕ) (h : Happening C) → slice_get hs place ≡ Some h → AllDrawn laws meaning_of (λ end. WasDrawn hs end) h.before × AllDrawn laws meaning_of (λ end. WasDrawn hs end) h.after
   drawn = drawn_at laws meaning_of (λ end. WasDrawn hs end) hs old new trail (λ place h there end serial nonce draws. record { place = place; h = h; there = there; draws = draws }) none_yet
 
+  one_drawn : EachNonceIsDrawnOnce hs → (end : End) (serial another : ℕ) (nonce : Octets) → WasDrawn hs end serial nonce → WasDrawn hs end another nonce → serial ≡ another
+  one_drawn once end serial another nonce p q =
+      let places = once.each p.place q.place p.h q.h end serial another nonce p.there q.there p.draws q.draws in
+      let same : p.h ≡ q.h = same_one p.h q.h (sym p.there ∙ ap (slice_get hs) places ∙ q.there) in
+      same_serial serial another p.draws.request q.draws.request (sym p.draws.said ∙ ap (λ (x : Happening C). x.said) same ∙ q.draws.said)
+
+  -- by what an IKE SA that waits after a step, or before one, holds
+  drawn_after : (place : ℕ) (h : Happening C) (end : End) (serial : ℕ) (nonce : Octets) → slice_get hs place ≡ Some h → HasNonce h.after end serial nonce → WasDrawn hs end serial nonce
+  drawn_after place h end serial nonce there has =
+      subst (λ (o : Octets). WasDrawn hs end serial o) has.is (((drawn place h there).1 end serial has.association has.there).told has.told has.tells)
+
+  drawn_before : (place : ℕ) (h : Happening C) (end : End) (serial : ℕ) (nonce : Octets) → slice_get hs place ≡ Some h → HasNonce h.before end serial nonce → WasDrawn hs end serial nonce
+  drawn_before place h end serial nonce there has =
+      subst (λ (o : Octets). WasDrawn hs end serial o) has.is (((drawn place h there).0 end serial has.association has.there).told has.told has.tells)
+
   pub each_is_of_one : EachNonceIsDrawnOnce hs → EachNonceIsOfOne hs
   each_is_of_one once = record {
     each = λ place other h g end serial another nonce there there_too one two.
-        let p : WasDrawn hs end serial nonce = subst (λ (o : Octets). WasDrawn hs end serial o) one.is (((drawn place h there).1 end serial one.association one.there).told one.told one.tells) in
-        let q : WasDrawn hs end another nonce = subst (λ (o : Octets). WasDrawn hs end another o) two.is (((drawn other g there_too).0 end another two.association two.there).told two.told two.tells) in
-        let places = once.each p.place q.place p.h q.h end serial another nonce p.there q.there p.draws q.draws in
-        let same : p.h ≡ q.h = same_one p.h q.h (sym p.there ∙ ap (slice_get hs) places ∙ q.there) in
-        same_serial serial another p.draws.request q.draws.request (sym p.draws.said ∙ ap (λ (x : Happening C). x.said) same ∙ q.draws.said);
+        one_drawn once end serial another nonce (drawn_after place h end serial nonce there one) (drawn_before other g end another nonce there_too two);
   }
+
+  -- the same of two that wait after a step
+  pub who_waits_is_one : EachNonceIsDrawnOnce hs → (place other : ℕ) (h g : Happening C) (end : End) (serial another : ℕ) (nonce : Octets)
+      → slice_get hs place ≡ Some h → slice_get hs other ≡ Some g → HasNonce h.after end serial nonce → HasNonce g.after end another nonce → serial ≡ another
+  who_waits_is_one once place other h g end serial another nonce there there_too one two =
+      one_drawn once end serial another nonce (drawn_after place h end serial nonce there one) (drawn_after other g end another nonce there_too two)

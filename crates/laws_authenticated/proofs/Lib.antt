@@ -1,7 +1,10 @@
 mod Nonces
+mod WorkedDeletionStages
+mod WorkedDeletionLemmas
 mod WorkedStrangerLemmas
 mod WorkedClosingLemmas
 mod ProvedLemmas
 mod PartnerLemmas
 mod WorkedPartnerLemmas
 mod DrawnLemmas
+mod UniqueLemmas

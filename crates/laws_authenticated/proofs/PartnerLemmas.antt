@@ -1,7 +1,8 @@
--- Who is established as initiator has a partner.
+-- Who is established, as initiator or as responder, has a partner.
 use Rattle.std.proofs.Common.{◌≡◌, ◌<◌, ◌==◌, ◌∷◌, inl, inr, ℕ, Bool, true, false, not, ◌&&◌, List, [], Option, Some, None, slice_get, refl, sym, ap, subst, ◌∙◌, arith}
 use Rattle.std.specs.Prelude.{option_and_then}
 use Rattle.base.specs.Octets.{Octets}
+use Rattle.mac.specs.Hmac.{hmac_sha256}
 use Rattle.wire.specs.Messages.{Spells}
 use Rattle.wire.specs.Numbers.{IKE_SA_INIT}
 use Rattle.wire.specs.declared.message.Header.{Header}
@@ -29,7 +30,7 @@ use Rattle.ike.specs.LawsOfOutputs.{TracesNameWhatIsHeld}
 use Rattle.ike.specs.LawsOfPeers.{TheEstablishedProvedThemselves}
 use Rattle.ike.specs.Machines.{association_of, keys_of_serial, Machine}
 use Rattle.ike.specs.Proving.{ProvedBy}
-use Rattle.ike.specs.Records.{ComesToKeysAsInitiator, ComesToKeysAsResponder, Introduction, SaysOfSender}
+use Rattle.ike.specs.Records.{introduced, ComesToKeysAsInitiator, ComesToKeysAsResponder, Introduction, SaysOfSender}
 use Rattle.ike.specs.Soundness.{IsSoundMachine}
 use Rattle.ike.specs.Steps as ike
 use Rattle.ike.specs.declared.output.Stepped.{Stepped}
@@ -45,10 +46,9 @@ use Rattle.gateway.specs.declared.world.stored.End.TheVariants.{A, B}
 use Rattle.gateway.proofs.AlongLemmas.{after_here, after_there, ahead, between, each_end, kept_along}
 use Rattle.gateway.proofs.BeforeLemmas.{given_before, none_some, same_one}
 use Rattle.gateway.proofs.ChildLemmas.{way_of}
-use Rattle.gateway.proofs.ExchangeLemmas.{given_there, held_on, keys_agree, made_of, request_tells, step_at, MadeAt, Offered, RecordLaws, TellsOffer}
-use Rattle.gateway.proofs.IntroductionLemmas.{introduced}
+use Rattle.gateway.proofs.ExchangeLemmas.{given_there, held_on, introduced_by, keys_agree, made_of, request_tells, step_at, MadeAt, Offered, RecordLaws, TellsOffer}
 use Rattle.laws_authenticated.proofs.Nonces.{EachNonceIsOfOne}
-use Rattle.laws_authenticated.specs.Agreeing.{IsEstablishedAsInitiator, HasPartner, HasProved, IsToBeProved, NoProofIsForged, ProvesAsInitiator, ProvesAsResponder}
+use Rattle.laws_authenticated.specs.Agreeing.{IsEstablishedAsInitiator, IsEstablishedAsResponder, HasAsker, HasPartner, HasProved, IsToBeProved, NoProofIsForged, NoTwoRecordsProveAlike, ProvesAsInitiator, ProvesAsResponder}
 use Rattle.laws_authenticated.proofs.ProvedLemmas.{proved_tells}
 
 -- what is known of one step
@@ -191,19 +191,25 @@ module _ {C : Type 0} (laws : PartnerLaws) (meaning_of : C → Meaning) where
 
   -- ---- the keys of a responder have the nonce of the request
 
-  nonce_of_responder : (cipher : Cipher) (group : ℕ) (public_value : Octets → Octets) (shared_secret : Octets → Octets → Option Octets) (own other : Introduction) (keys : KeyRecord)
+  pub nonce_of_responder : (cipher : Cipher) (group : ℕ) (public_value : Octets → Octets) (shared_secret : Octets → Octets → Option Octets) (own other : Introduction) (keys : KeyRecord)
       → ComesToKeysAsResponder cipher group public_value shared_secret own other keys → keys.nonce_i ≡ other.nonce
   nonce_of_responder cipher group public_value shared_secret own other keys r =
       let kept : Some r.admits.agreed.record ≡ Some keys = sym (ap (λ (a : Association). keys_in a.phase) r.admits.content) ∙ r.keyed in
       let record_is : r.admits.agreed.record ≡ keys = cc in
       ap (λ (k : KeyRecord). k.nonce_i) (sym record_is ∙ r.admits.answer.keys) ∙ ap (λ (x : Introduction). x.nonce) (sym r.other_is)
 
+  -- and its own
+  pub own_nonce_of_responder : (cipher : Cipher) (group : ℕ) (public_value : Octets → Octets) (shared_secret : Octets → Octets → Option Octets) (own other : Introduction) (keys : KeyRecord)
+      → ComesToKeysAsResponder cipher group public_value shared_secret own other keys → keys.nonce_r ≡ own.nonce
+  own_nonce_of_responder cipher group public_value shared_secret own other keys r =
+      let kept : Some r.admits.agreed.record ≡ Some keys = sym (ap (λ (a : Association). keys_in a.phase) r.admits.content) ∙ r.keyed in
+      let record_is : r.admits.agreed.record ≡ keys = cc in
+      ap (λ (k : KeyRecord). k.nonce_r) (sym record_is ∙ r.admits.answer.keys) ∙ ap (λ (x : Introduction). x.nonce) (sym r.own_is)
+
   -- ---- over a history that begins with new gateways
 
   module _ (public_value : Octets → Octets) (shares : (caller : C) → (meaning_of caller).public_value ≡ public_value) (hs : List (Happening C)) (old new : WorldState C) (trail : IsWorldTrail meaning_of old hs new)
-      (begins : (end : End) → HoldsNothing (gateway_at end old)) (unforged : NoProofIsForged meaning_of hs) (apart : EachNonceIsOfOne hs)
-      (agree : (caller answerer : C) (initiator responder : Introduction) (one other : KeyRecord) → ComesToKeysAsInitiator (asker_of (meaning_of caller)) initiator responder one
-      → ComesToKeysAsResponder (meaning_of answerer).cipher (meaning_of answerer).group (meaning_of answerer).public_value (meaning_of answerer).shared_secret responder initiator other → one ≡ other) where
+      (begins : (end : End) → HoldsNothing (gateway_at end old)) (unforged : NoProofIsForged meaning_of hs) where
     abbrev step_of : (place : ℕ) (h : Happening C) → slice_get hs place ≡ Some h → TakesEvent meaning_of h.event h.before h.said h.after
     step_of = step_at laws.records meaning_of public_value shares hs old new trail
 
@@ -365,183 +371,247 @@ module _ {C : Type 0} (laws : PartnerLaws) (meaning_of : C → Meaning) where
       pub told : AuthSent
       pub asked : Asked end before serial request told
       pub request_is : opened.request ≡ request
+      pub peer : Identity
+      pub own : Identity
+      pub macs : hmac_sha256 told.keys.sk_pi (rest_of_id own.kind own.data) ≡ hmac_sha256 opened.keys.sk_pi (rest_of_id peer.kind peer.data)
 
-    asked_of : (end : End) (by : ℕ) (prover : Happening C) (octets : Octets) (pr : ProvesAsResponder hs by prover (other_end end) octets) → slice_get hs by ≡ Some prover → AskedBy end by pr.opened
-    asked_of end by prover octets pr there =
+    asked_of : (end : End) (by : ℕ) (prover : Happening C) (serial : ℕ) (keys : KeyRecord) (c : IsEstablishedAsResponder prover end serial keys) → slice_get hs by ≡ Some prover → AskedBy (other_end end) by c.opened
+    asked_of end by prover serial keys c there =
         let t = step_of by prover there in
         let e = prover.event.end in
+        let asker = other_end end in
         let state = gateway_at e prover.before in
-        let stood : association_in state pr.serial ≡ Some pr.was = ap (λ (x : End). association_in (gateway_at x prover.before) pr.serial) pr.at ∙ pr.stood in
-        let here : gateway_at (other_end end) prover.after ≡ t.gateway = subst (λ (x : End). gateway_at x prover.after ≡ t.gateway) pr.at (after_here meaning_of prover t) in
-        let stands : association_in t.gateway pr.serial ≡ Some pr.is = ap (λ (s : State C). association_in s pr.serial) (sym here) ∙ pr.there in
-        let now = proves_now prover t pr.serial pr.was pr.is pr.opened.keys stood stands pr.established (λ no. let not_so = sym pr.waited ∙ no in cc) in
+        let stood : association_in state serial ≡ Some c.was = ap (λ (x : End). association_in (gateway_at x prover.before) serial) c.at ∙ c.stood in
+        let here : gateway_at end prover.after ≡ t.gateway = subst (λ (x : End). gateway_at x prover.after ≡ t.gateway) c.at (after_here meaning_of prover t) in
+        let stands : association_in t.gateway serial ≡ Some c.is = ap (λ (s : State C). association_in s serial) (sym here) ∙ c.there in
+        let now = proves_now prover t serial c.was c.is keys stood stands c.established (λ no. let not_so = sym c.waited ∙ no in cc) in
         let peer = state.machine.config.peer.identity in
-        let opened = pr.opened in
+        let opened = c.opened in
         let octets_so = octets_to_prove (proving_of Initiator opened.keys opened.request) peer in
-        let asked_for = (laws.records.steps.sound_at state.machine state.table pr.serial pr.was t.sound.machine stood).asked opened pr.waited in
+        let asked_for = (laws.records.steps.sound_at state.machine state.table serial c.was t.sound.machine stood).asked opened c.waited in
         let asks : asked_for.message.header.flags.response ≡ false = no_response_by (asked_for.message.header.spi_r == 0) asked_for.message.header.flags.response (asked_for.message.header.exchange == IKE_SA_INIT) asked_for.initial in
-        let back : other_end e ≡ end = ap other_end pr.at ∙ other_twice end in
-        let p : HasProved hs by end octets_so = subst (λ (x : End). HasProved hs by x octets_so) back
-        (unforged.each by pr.serial prover pr.was pr.is pr.opened.keys now.view octets_so there stood now.came now.by (subst (λ (x : Phase). IsToBeProved x peer octets_so) (sym pr.waited) refl)
-        (ap (λ (x : End). association_in (gateway_at x prover.after) pr.serial) pr.at ∙ pr.there) pr.established) in
+        let p : HasProved hs by asker octets_so = subst (λ (x : End). HasProved hs by (other_end x) octets_so) c.at
+        (unforged.each by serial prover c.was c.is keys now.view octets_so there stood now.came now.by (subst (λ (x : Phase). IsToBeProved x peer octets_so) (sym c.waited) refl)
+        (ap (λ (x : End). association_in (gateway_at x prover.after) serial) c.at ∙ c.there) c.established) in
         elim p.proves [
           | inl i ↦
-              let k = asked_by end by p.by p.prover octets_so p.earlier p.there i in
-              let tells = tells_of end by i.serial i.request i.told k in
-              let own = (gateway_at end p.prover.before).machine.config.own.identity in
+              let k = asked_by asker by p.by p.prover octets_so p.earlier p.there i in
+              let tells = tells_of asker by i.serial i.request i.told k in
+              let own = (gateway_at asker p.prover.before).machine.config.own.identity in
               let same = proved_tells asked_for.message tells.says.message opened.request opened.keys.nonce_r opened.keys.sk_pi (rest_of_id peer.kind peer.data) i.request i.told.keys.nonce_r i.told.keys.sk_pi (rest_of_id own.kind own.data) asked_for.spelled tells.says.spelled i.proved in
-              record { serial = i.serial; request = i.request; told = i.told; asked = k; request_is = same.firsts }
+              record { serial = i.serial; request = i.request; told = i.told; asked = k; request_is = same.firsts; peer = peer; own = own; macs = sym same.macs }
           | inr q ↦
-              let made = made_by end p.by p.prover octets_so q in
-              let own = (gateway_at end p.prover.before).machine.config.own.identity in
+              let made = made_by asker p.by p.prover octets_so q in
+              let own = (gateway_at asker p.prover.before).machine.config.own.identity in
               let same = proved_tells asked_for.message made.says.message opened.request opened.keys.nonce_r opened.keys.sk_pi (rest_of_id peer.kind peer.data) q.response q.opened.keys.nonce_i q.opened.keys.sk_pr (rest_of_id own.kind own.data) asked_for.spelled made.says.spelled q.proved in
               absurd (response_not made.says.message asked_for.message
               (sym (laws.one_message asked_for.message made.says.message q.response (subst (λ (o : Octets). Spells asked_for.message o) same.firsts asked_for.spelled) made.says.spelled)) made.responds asks)
         ]
 
-    -- ---- the partner
+    -- ---- the partner of a responder
 
-    module _ (place : ℕ) (h : Happening C) (there : slice_get hs place ≡ Some h) (serial : ℕ) (keys : KeyRecord) (c : IsEstablishedAsInitiator h h.event.end serial keys) where
-      abbrev end : End
-      end = h.event.end
-
-      abbrev here : TakesEvent meaning_of h.event h.before h.said h.after
-      here = step_of place h there
-
-      stands : association_in here.gateway serial ≡ Some c.is
-      stands = ap (λ (s : State C). association_in s serial) (sym (after_here meaning_of h here)) ∙ c.there
-
-      keys_are : c.told.keys ≡ keys
-      keys_are =
-          let state = gateway_at end h.before in
+    module _ (place : ℕ) (h : Happening C) (there : slice_get hs place ≡ Some h) (end : End) (serial : ℕ) (keys : KeyRecord) (c : IsEstablishedAsResponder h end serial keys) where
+      -- it is established under the keys that it had half-open
+      opened_under : c.opened.keys ≡ keys
+      opened_under =
+          let t = step_of place h there in
+          let state = gateway_at h.event.end h.before in
           let meaning = meaning_of state.caller in
-          elim (way_of meaning h.event.input state h.said here.trace here.gateway here.traces.does) [
+          let stood : association_in state serial ≡ Some c.was = ap (λ (x : End). association_in (gateway_at x h.before) serial) c.at ∙ c.stood in
+          let here : gateway_at end h.after ≡ t.gateway = subst (λ (x : End). gateway_at x h.after ≡ t.gateway) c.at (after_here meaning_of h t) in
+          let stands : association_in t.gateway serial ≡ Some c.is = ap (λ (s : State C). association_in s serial) (sym here) ∙ c.there in
+          elim (way_of meaning h.event.input state h.said t.trace t.gateway t.traces.does) [
             | inl w ↦
-                let keyed : keys_of_serial serial state.machine.held.associations ≡ Some c.told.keys =
-                ap (λ (o : Option Association). option_and_then (λ a. keys_in a.phase) o) c.stood ∙ ap keys_in c.waited in
-                let kept = laws.records.keys meaning state.entries w.view state.machine state.table w.stepped here.gateway.machine here.gateway.table serial c.told.keys c.is here.sound.table here.sound.machine w.steps keyed stands in
-                same_one c.told.keys keys (sym kept ∙ ap keys_in c.established)
+                let keyed : keys_of_serial serial state.machine.held.associations ≡ Some c.opened.keys =
+                ap (λ (o : Option Association). option_and_then (λ a. keys_in a.phase) o) stood ∙ ap keys_in c.waited in
+                let kept = laws.records.keys meaning state.entries w.view state.machine state.table w.stepped t.gateway.machine t.gateway.table serial c.opened.keys c.is t.sound.table t.sound.machine w.steps keyed stands in
+                same_one c.opened.keys keys (sym kept ∙ ap keys_in c.established)
             | inr still ↦
-                let one = same_one c.was c.is (sym c.stood ∙ ap (λ (m : Machine). association_of serial m.held.associations) (sym still.machine) ∙ stands) in
+                let one = same_one c.was c.is (sym stood ∙ ap (λ (m : Machine). association_of serial m.held.associations) (sym still.machine) ∙ stands) in
                 absurd (let no = sym c.waited ∙ ap (λ (a : Association). a.phase) one ∙ c.established in cc)
           ]
 
-      read : IsReadResponse c.told
-      read = read_along end (ahead meaning_of hs old new trail place h there).happenings old h.before (ahead meaning_of hs old new trail place h there).trail (none_read (gateway_at end old) (begins end)) serial c.was c.stood c.told c.waited
-
-      responds : Responded (other_end end) place c.told.first c.told.keys.nonce_i
-      responds =
-          let now = proves_now h here serial c.was c.is keys c.stood stands c.established (λ no. let not_so = sym c.waited ∙ no in cc) in
-          let peer = (gateway_at end h.before).machine.config.peer.identity in
-          let octets = octets_to_prove (proving_of Responder c.told.keys c.told.first) peer in
-          responded (other_end end) place c.told peer read
-          (unforged.each place serial h c.was c.is keys now.view octets there c.stood now.came now.by (subst (λ (x : Phase). IsToBeProved x peer octets) (sym c.waited) refl) c.there c.established)
-
-      abbrev pr : ProvesAsResponder hs responds.by responds.prover (other_end end) responds.octets
-      pr = responds.proves
-
-      abbrev made : MadeAt laws.records meaning_of pr.replies (step_of pr.answered pr.replies pr.replies_there) pr.request pr.response pr.answers.fresh pr.answers.association
-      made = made_by (other_end end) responds.by responds.prover responds.octets pr
-
-      opened_is : pr.opened ≡ made.opened
-      opened_is = opened_still (other_end end) responds.by responds.prover responds.octets pr responds.there
-
-      asker : AskedBy end responds.by pr.opened
-      asker = asked_of end responds.by responds.prover responds.octets pr responds.there
-
-      abbrev was_read : HoldsAsRead end responds.by asker.serial asker.request asker.told asker.asked
-      was_read = holds_as_read end responds.by asker.serial asker.request asker.told asker.asked
-
-      -- the responder's keys have the nonce of the asker's request
-      nonces : asker.told.keys.nonce_i ≡ c.told.keys.nonce_i
-      nonces =
-          let k = asker.asked in
-          let tells = tells_of end responds.by asker.serial asker.request asker.told k in
-          let who = introduced public_value k.sends.association.spi_i k.sends.sent.secret k.sends.sent.nonce in
-          let same : asker.request ≡ pr.request = sym asker.request_is ∙ ap (λ (o : HalfOpen). o.request) opened_is ∙ made.request_is in
-          let comes = made.comes pr.answers.secret who (subst (λ (o : Octets). SaysOfSender (λ (x : Header). x.spi_i) o who) same tells.says) in
-          let answerer = meaning_of (gateway_at pr.replies.event.end pr.replies.before).caller in
-          let theirs = nonce_of_responder answerer.cipher answerer.group answerer.public_value answerer.shared_secret (introduced answerer.public_value pr.answers.fresh.spi pr.answers.fresh.secret pr.answers.fresh.nonce) who made.opened.keys comes in
-          was_read.nonce ∙ sym theirs ∙ ap (λ (o : HalfOpen). o.keys.nonce_i) (sym opened_is) ∙ sym responds.nonce_is
-
-      serials : asker.serial ≡ serial
-      serials =
-          let k = asker.asked in
-          apart.each k.place place k.h h end asker.serial serial c.told.keys.nonce_i k.there there
-          (record { association = k.reads.is; there = k.reads.there; told = asker.told; tells = k.tells; is = nonces })
-          (record { association = c.was; there = c.stood; told = c.told; tells = c.waited; is = refl })
-
-      own : Asked end responds.by serial asker.request asker.told
-      own = subst (λ (n : ℕ). Asked end responds.by n asker.request asker.told) serials asker.asked
-
-      own_read : HoldsAsRead end responds.by serial asker.request asker.told own
-      own_read = holds_as_read end responds.by serial asker.request asker.told own
-
-      told_is : c.told ≡ asker.told
-      told_is =
-          let one = own.earlier in
-          let two = responds.earlier in
-          told_still end responds.by serial asker.request asker.told own place h there (omega (arith, one, two)) c.was c.told c.stood c.waited
-
-      response_is : own.response ≡ pr.response
-      response_is = sym own_read.first ∙ ap (λ (x : AuthSent). x.first) (sym told_is) ∙ responds.first_is
-
-      request_is : asker.request ≡ pr.request
-      request_is = sym asker.request_is ∙ ap (λ (o : HalfOpen). o.request) opened_is ∙ made.request_is
-
-      exchanged : HaveExchanged hs end serial pr.serial
-      exchanged = record {
-        request = pr.request;
-        response = pr.response;
-        asked = own.asked;
-        asks = own.asks;
-        asks_there = own.asks_there;
-        sends = subst (λ (o : Octets). SendsRequest own.asks end serial o) request_is own.sends;
-        answered = pr.answered;
-        replies = pr.replies;
-        replies_there = pr.replies_there;
-        answers = pr.answers;
-        taken = own.place;
-        takes = own.h;
-        takes_there = own.there;
-        reads = subst (λ (o : Octets). ReadsResponse own.h end serial o) response_is own.reads;
-        later = own.first;
-      }
-
-      -- the keys that were read are those of the phase
-      reads_are : (o : Octets) (same : own.response ≡ o) → (subst (λ (x : Octets). ReadsResponse own.h end serial x) same own.reads).keys ≡ asker.told.keys
-      reads_are o same = same_one _ asker.told.keys (sym (subst (λ (x : Octets). ReadsResponse own.h end serial x) same own.reads).keyed ∙ ap keys_in (phase_of o same)) where
-        phase_of : (o : Octets) (same : own.response ≡ o) → (subst (λ (x : Octets). ReadsResponse own.h end serial x) same own.reads).is.phase ≡ phase.AuthSent asker.told
-        phase_of o same =
-            let r = subst (λ (x : Octets). ReadsResponse own.h end serial x) same own.reads in
-            ap (λ (a : Association). a.phase) (same_one r.is own.reads.is (sym r.there ∙ own.reads.there)) ∙ own.tells
-
-      pub has_partner : HasPartner hs place end serial keys
-      unfolding exchanged
-      has_partner =
-          let agreed = keys_agree laws.records meaning_of public_value shares hs old new trail agree end serial pr.serial exchanged in
-          let mine = reads_are pr.response response_is ∙ ap (λ (x : AuthSent). x.keys) (sym told_is) ∙ keys_are in
-          let one : pr.opened.keys ≡ keys = ap (λ (o : HalfOpen). o.keys) opened_is ∙ sym agreed ∙ mine in
+      pub has_asker : NoTwoRecordsProveAlike hs → HasAsker hs place end c.opened keys
+      has_asker alike =
+          let a = asked_of end place h serial keys c there in
+          let k = a.asked in
+          let same : a.told.keys ≡ c.opened.keys =
+          alike.each k.place place k.h h (other_end end) end a.serial serial a.told.keys c.opened.keys a.own a.peer k.there there
+          (record { association = k.reads.is; there = k.reads.there; keyed = ap keys_in k.tells })
+          (record { association = c.was; there = c.stood; keyed = ap keys_in c.waited }) a.macs in
           record {
-            partner = pr.serial;
-            exchanged = exchanged;
-            by = responds.by;
-            earlier = responds.earlier;
-            after_it = own.earlier;
-            read = mine;
-            accepts = responds.prover;
-            accepts_there = responds.there;
-            at = pr.at;
-            was = pr.was;
-            stood = pr.stood;
-            opened = pr.opened;
-            half_open = pr.waited;
-            association = pr.is;
-            there = pr.there;
-            established = pr.established ∙ ap phase.Established one;
+            partner = a.serial;
+            asked = k.asked;
+            asks = k.asks;
+            asks_there = k.asks_there;
+            sends = subst (λ (o : Octets). SendsRequest k.asks (other_end end) a.serial o) (sym a.request_is) k.sends;
+            by = k.place;
+            earlier = k.earlier;
+            first = k.first;
+            reader = k.h;
+            reader_there = k.there;
+            response = k.response;
+            reads = k.reads;
+            told = a.told;
+            tells = k.tells;
+            same_keys = same ∙ opened_under;
           }
 
-    -- the same of whichever end it took place at
-    pub partner_of : (place : ℕ) (h : Happening C) → slice_get hs place ≡ Some h → (serial : ℕ) (which : End) (keys : KeyRecord) → IsEstablishedAsInitiator h which serial keys → HasPartner hs place which serial keys
-    partner_of place h there serial which keys c =
-        subst (λ (e : End). HasPartner hs place e serial keys) c.at (has_partner place h there serial keys (subst (λ (e : End). IsEstablishedAsInitiator h e serial keys) (sym c.at) c))
+    -- ---- the partner of an initiator
+
+    module _ (apart : EachNonceIsOfOne hs)
+        (agree : (caller answerer : C) (initiator responder : Introduction) (one other : KeyRecord) → ComesToKeysAsInitiator (asker_of (meaning_of caller)) initiator responder one
+        → ComesToKeysAsResponder (meaning_of answerer).cipher (meaning_of answerer).group (meaning_of answerer).public_value (meaning_of answerer).shared_secret responder initiator other → one ≡ other) where
+      module _ (place : ℕ) (h : Happening C) (there : slice_get hs place ≡ Some h) (serial : ℕ) (keys : KeyRecord) (c : IsEstablishedAsInitiator h h.event.end serial keys) where
+        abbrev end : End
+        end = h.event.end
+
+        abbrev here : TakesEvent meaning_of h.event h.before h.said h.after
+        here = step_of place h there
+
+        stands : association_in here.gateway serial ≡ Some c.is
+        stands = ap (λ (s : State C). association_in s serial) (sym (after_here meaning_of h here)) ∙ c.there
+
+        keys_are : c.told.keys ≡ keys
+        keys_are =
+            let state = gateway_at end h.before in
+            let meaning = meaning_of state.caller in
+            elim (way_of meaning h.event.input state h.said here.trace here.gateway here.traces.does) [
+              | inl w ↦
+                  let keyed : keys_of_serial serial state.machine.held.associations ≡ Some c.told.keys =
+                  ap (λ (o : Option Association). option_and_then (λ a. keys_in a.phase) o) c.stood ∙ ap keys_in c.waited in
+                  let kept = laws.records.keys meaning state.entries w.view state.machine state.table w.stepped here.gateway.machine here.gateway.table serial c.told.keys c.is here.sound.table here.sound.machine w.steps keyed stands in
+                  same_one c.told.keys keys (sym kept ∙ ap keys_in c.established)
+              | inr still ↦
+                  let one = same_one c.was c.is (sym c.stood ∙ ap (λ (m : Machine). association_of serial m.held.associations) (sym still.machine) ∙ stands) in
+                  absurd (let no = sym c.waited ∙ ap (λ (a : Association). a.phase) one ∙ c.established in cc)
+            ]
+
+        read : IsReadResponse c.told
+        read = read_along end (ahead meaning_of hs old new trail place h there).happenings old h.before (ahead meaning_of hs old new trail place h there).trail (none_read (gateway_at end old) (begins end)) serial c.was c.stood c.told c.waited
+
+        responds : Responded (other_end end) place c.told.first c.told.keys.nonce_i
+        responds =
+            let now = proves_now h here serial c.was c.is keys c.stood stands c.established (λ no. let not_so = sym c.waited ∙ no in cc) in
+            let peer = (gateway_at end h.before).machine.config.peer.identity in
+            let octets = octets_to_prove (proving_of Responder c.told.keys c.told.first) peer in
+            responded (other_end end) place c.told peer read
+            (unforged.each place serial h c.was c.is keys now.view octets there c.stood now.came now.by (subst (λ (x : Phase). IsToBeProved x peer octets) (sym c.waited) refl) c.there c.established)
+
+        abbrev pr : ProvesAsResponder hs responds.by responds.prover (other_end end) responds.octets
+        pr = responds.proves
+
+        abbrev made : MadeAt laws.records meaning_of pr.replies (step_of pr.answered pr.replies pr.replies_there) pr.request pr.response pr.answers.fresh pr.answers.association
+        made = made_by (other_end end) responds.by responds.prover responds.octets pr
+
+        opened_is : pr.opened ≡ made.opened
+        opened_is = opened_still (other_end end) responds.by responds.prover responds.octets pr responds.there
+
+        asker : AskedBy end responds.by pr.opened
+        asker = subst (λ (e : End). AskedBy e responds.by pr.opened) (other_twice end) (asked_of (other_end end) responds.by responds.prover pr.serial pr.opened.keys (record {
+          at = pr.at;
+          was = pr.was;
+          stood = pr.stood;
+          opened = pr.opened;
+          waited = pr.waited;
+          is = pr.is;
+          there = pr.there;
+          established = pr.established;
+        }) responds.there)
+
+        abbrev was_read : HoldsAsRead end responds.by asker.serial asker.request asker.told asker.asked
+        was_read = holds_as_read end responds.by asker.serial asker.request asker.told asker.asked
+
+        -- the responder's keys have the nonce of the asker's request
+        nonces : asker.told.keys.nonce_i ≡ c.told.keys.nonce_i
+        nonces =
+            let k = asker.asked in
+            let tells = tells_of end responds.by asker.serial asker.request asker.told k in
+            let who = introduced public_value k.sends.association.spi_i k.sends.sent.secret k.sends.sent.nonce in
+            let same : asker.request ≡ pr.request = sym asker.request_is ∙ ap (λ (o : HalfOpen). o.request) opened_is ∙ made.request_is in
+            let comes = made.comes pr.answers.secret who (subst (λ (o : Octets). SaysOfSender (λ (x : Header). x.spi_i) o who) same tells.says) in
+            let answerer = meaning_of (gateway_at pr.replies.event.end pr.replies.before).caller in
+            let theirs = nonce_of_responder answerer.cipher answerer.group answerer.public_value answerer.shared_secret (introduced answerer.public_value pr.answers.fresh.spi pr.answers.fresh.secret pr.answers.fresh.nonce) who made.opened.keys comes in
+            was_read.nonce ∙ sym theirs ∙ ap (λ (o : HalfOpen). o.keys.nonce_i) (sym opened_is) ∙ sym responds.nonce_is
+
+        serials : asker.serial ≡ serial
+        serials =
+            let k = asker.asked in
+            apart.each k.place place k.h h end asker.serial serial c.told.keys.nonce_i k.there there
+            (record { association = k.reads.is; there = k.reads.there; told = asker.told; tells = k.tells; is = nonces })
+            (record { association = c.was; there = c.stood; told = c.told; tells = c.waited; is = refl })
+
+        own : Asked end responds.by serial asker.request asker.told
+        own = subst (λ (n : ℕ). Asked end responds.by n asker.request asker.told) serials asker.asked
+
+        own_read : HoldsAsRead end responds.by serial asker.request asker.told own
+        own_read = holds_as_read end responds.by serial asker.request asker.told own
+
+        told_is : c.told ≡ asker.told
+        told_is =
+            let one = own.earlier in
+            let two = responds.earlier in
+            told_still end responds.by serial asker.request asker.told own place h there (omega (arith, one, two)) c.was c.told c.stood c.waited
+
+        response_is : own.response ≡ pr.response
+        response_is = sym own_read.first ∙ ap (λ (x : AuthSent). x.first) (sym told_is) ∙ responds.first_is
+
+        request_is : asker.request ≡ pr.request
+        request_is = sym asker.request_is ∙ ap (λ (o : HalfOpen). o.request) opened_is ∙ made.request_is
+
+        exchanged : HaveExchanged hs end serial pr.serial
+        exchanged = record {
+          request = pr.request;
+          response = pr.response;
+          asked = own.asked;
+          asks = own.asks;
+          asks_there = own.asks_there;
+          sends = subst (λ (o : Octets). SendsRequest own.asks end serial o) request_is own.sends;
+          answered = pr.answered;
+          replies = pr.replies;
+          replies_there = pr.replies_there;
+          answers = pr.answers;
+          taken = own.place;
+          takes = own.h;
+          takes_there = own.there;
+          reads = subst (λ (o : Octets). ReadsResponse own.h end serial o) response_is own.reads;
+          later = own.first;
+        }
+
+        -- the keys that were read are those of the phase
+        reads_are : (o : Octets) (same : own.response ≡ o) → (subst (λ (x : Octets). ReadsResponse own.h end serial x) same own.reads).keys ≡ asker.told.keys
+        reads_are o same = same_one _ asker.told.keys (sym (subst (λ (x : Octets). ReadsResponse own.h end serial x) same own.reads).keyed ∙ ap keys_in (phase_of o same)) where
+          phase_of : (o : Octets) (same : own.response ≡ o) → (subst (λ (x : Octets). ReadsResponse own.h end serial x) same own.reads).is.phase ≡ phase.AuthSent asker.told
+          phase_of o same =
+              let r = subst (λ (x : Octets). ReadsResponse own.h end serial x) same own.reads in
+              ap (λ (a : Association). a.phase) (same_one r.is own.reads.is (sym r.there ∙ own.reads.there)) ∙ own.tells
+
+        pub has_partner : HasPartner hs place end serial keys
+        unfolding exchanged
+        has_partner =
+            let agreed = keys_agree laws.records meaning_of public_value shares hs old new trail agree end serial pr.serial (introduced_by laws.records meaning_of public_value shares hs old new trail end serial pr.serial exchanged) in
+            let mine = reads_are pr.response response_is ∙ ap (λ (x : AuthSent). x.keys) (sym told_is) ∙ keys_are in
+            let one : pr.opened.keys ≡ keys = ap (λ (o : HalfOpen). o.keys) opened_is ∙ sym agreed ∙ mine in
+            record {
+              partner = pr.serial;
+              exchanged = exchanged;
+              by = responds.by;
+              earlier = responds.earlier;
+              after_it = own.earlier;
+              read = mine;
+              accepts = responds.prover;
+              accepts_there = responds.there;
+              at = pr.at;
+              was = pr.was;
+              stood = pr.stood;
+              opened = pr.opened;
+              half_open = pr.waited;
+              association = pr.is;
+              there = pr.there;
+              established = pr.established ∙ ap phase.Established one;
+            }
+
+      -- the same of whichever end it took place at
+      pub partner_of : (place : ℕ) (h : Happening C) → slice_get hs place ≡ Some h → (serial : ℕ) (which : End) (keys : KeyRecord) → IsEstablishedAsInitiator h which serial keys → HasPartner hs place which serial keys
+      partner_of place h there serial which keys c =
+          subst (λ (e : End). HasPartner hs place e serial keys) c.at (has_partner place h there serial keys (subst (λ (e : End). IsEstablishedAsInitiator h e serial keys) (sym c.at) c))

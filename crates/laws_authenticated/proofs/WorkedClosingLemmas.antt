@@ -1,277 +1,332 @@
--- The worked step that closes an IKE SA is one.
-use Rattle.std.proofs.Common.{◌≡◌, ◌+◌, inl, inr, ℕ, true, cond, is_some, [], ◌∷◌, Some, None, ap, arith, refl, subst, suc, sym, zero, ◌∙◌}
-use Rattle.std.proofs.lemmas.Bool.{eq-eqb}
-use Rattle.std.proofs.lemmas.Option.{none-some, same_Some}
-use Rattle.std.specs.Cmp.{nat_cmp_total, unsigned_tied}
+-- The run takes place in which a stranger is met and the IKE SA is closed by its peer. B's steps are those
+-- of a gateway, and meet what is asked of the closed, and of what is left out.
+use Rattle.std.proofs.Common.{◌≡◌, ◌∷◌, inl, ℕ, zero, suc, Bool, false, true, List, [], Some, ap, arith, refl, subst, sym}
 use Rattle.std.specs.FinMap as map
-use Rattle.std.specs.Ordering.{nat_cmp}
-use Rattle.base.specs.Octets.{Octets}
-use Rattle.wire.specs.Messages.{Spells, SpellsPlainly}
-use Rattle.wire.specs.Payloads.{SpellsChain}
-use Rattle.wire.specs.declared.payload.Payload.TheVariants.{Delete}
-use Rattle.suite.specs.declared.fresh.Fresh.{Fresh}
-use Rattle.requests.specs.Incoming.{IsLeftBehind, PeerRequests, TakesRequest}
-use Rattle.requests.specs.declared.incoming.Judgement.TheVariants as judged
-use Rattle.sadb.specs.Database.{empty_table, pair_at}
+use Rattle.std.specs.Prelude.{⊤, replicate}
+use Rattle.std.proofs.lemmas.Option.{none-some}
+use Rattle.sadb.specs.Database.{pair_at}
 use Rattle.sadb.specs.declared.pair.Pair.{Pair}
-use Rattle.association.specs.Closing.{Closes, HoldsSpi}
-use Rattle.association.specs.Issuing.{with_incoming}
-use Rattle.association.specs.Receiving as receiving
+use Rattle.association.specs.Phases.{keys_in}
 use Rattle.association.specs.Receiving.{is_closed}
-use Rattle.association.specs.declared.outcome.Answered.{Answered}
-use Rattle.association.specs.declared.outcome.Fate.TheVariants as fate
+use Rattle.association.specs.declared.fault.MessageFault.TheVariants.{NotOpened}
 use Rattle.association.specs.declared.phase.Association.{Association}
-use Rattle.setup.specs.Configs.{IsConfig, Setup}
-use Rattle.setup.specs.declared.config.Config.{Config}
+use Rattle.moments.specs.Held.{IsInTime}
+use Rattle.suite.specs.declared.fresh.Fresh.{Fresh}
 use Rattle.effects.specs.Lengths.{TellsLengths}
-use Rattle.effects.specs.Taking.{TakesMessage}
+use Rattle.effects.specs.Taking.{Meaning}
 use Rattle.effects.specs.declared.taking.Effect.TheVariants as effect
-use Rattle.ike.specs.Outputs.{stepped_of}
-use Rattle.gateway.specs.Histories.{IsPassage, Passage}
-use Rattle.gateway.specs.WorkedRequests.{first_taken, one_more_taken, worked_association, worked_keys, worked_meaning, worked_reply}
-use Rattle.gateway.proofs.WorkedRequestLemmas.{answered, fine_before, first_three, fresh_two, none_asked, same_association, sound_state, the_reply}
-use Rattle.gateway.specs.LeavingOut.{EachLeftOut, IsWithoutEffect}
-use Rattle.gateway.specs.Strangers.{IsStrange}
-use Rattle.laws_authenticated.specs.WorkedClosings.{closed_association, deletion_counts, deletion_payload, deletion_under_keys, sealed_deletion, worked_deletions, CanLeaveAStrangerOut, IsClosedByItsPeer}
-use Rattle.laws_authenticated.specs.WorkedStrangers.{deletion_comes}
-use Rattle.laws_authenticated.proofs.WorkedStrangerLemmas.{octets_if, step}
+use Rattle.ike.specs.Machines.{new_machine}
+use Rattle.ike.specs.Orders as orders
+use Rattle.ike.specs.Outputs.{asking_step, stepped_of}
+use Rattle.ike.specs.Steps as ike
+use Rattle.ike.specs.declared.output.Stepped.{Stepped}
+use Rattle.ike.specs.declared.output.Trace.{Trace}
+use Rattle.gateway.specs.Carrying.{EachPairIsOfAnEstablished, IsEstablishedNow}
+use Rattle.gateway.specs.Closing.{HasNothingLeft, IsOver}
+use Rattle.gateway.specs.Histories.{IsTrail, Passage}
+use Rattle.gateway.specs.Inputs.{Input}
+use Rattle.gateway.specs.LeavingOut.{without, EachLeftOut, IsWithoutEffect}
+use Rattle.gateway.specs.Outputs.{OutputView}
+use Rattle.gateway.specs.States.{IsSoundState, State}
+use Rattle.gateway.specs.Steps.{Traces}
+use Rattle.gateway.specs.WorldHistories.{passage_at, passages_at, Happening, IsWorldTrail}
+use Rattle.gateway.specs.Worlds.{gateway_at, if_at, with_gateway, Stored, TakesEvent, WorldState}
+use Rattle.gateway.specs.declared.world.stored.End.{End}
+use Rattle.gateway.specs.declared.world.stored.End.TheVariants.{A, B}
+use Rattle.gateway.proofs.PartyLemmas.{some_is}
+use Rattle.laws_two_ends.specs.WorkedRecords.{fresh_of, worked_record}
+use Rattle.laws_two_ends.specs.WorkedRequests.{worked_reply, worked_request}
+use Rattle.laws_two_ends.specs.WorkedRuns.{all_protected, config_at, new_ends, run_meaning, Exchanged}
+use Rattle.laws_two_ends.proofs.AcceptingLemmas.{child_other_is_sound}
+use Rattle.laws_two_ends.proofs.ArrivalLemmas.{takes_alone}
+use Rattle.laws_two_ends.proofs.AskingLemmas.{probe_takes, reply_takes}
+use Rattle.laws_two_ends.proofs.AuthLemmas.{auth_octets}
+use Rattle.laws_two_ends.proofs.BeginningLemmas.{told_one_is_sound, told_other_is_sound}
+use Rattle.laws_two_ends.proofs.ConcludingLemmas.{child_one_is_sound}
+use Rattle.laws_two_ends.proofs.HeldLemmas.{answering_in_time, answering_table_is_sound, asking_in_time, asking_table_is_sound, later_table_is_sound}
+use Rattle.laws_two_ends.proofs.InformationalLemmas.{nothing_ended, reply_by}
+use Rattle.laws_two_ends.proofs.InitLemmas.{answer_octets, request_octets, request_read}
+use Rattle.laws_two_ends.proofs.LastLemmas.{sound_delivered, sound_probing}
+use Rattle.laws_two_ends.proofs.MapLemmas.{none_found}
+use Rattle.laws_two_ends.proofs.NewEndLemmas.{can_be, sealing}
+use Rattle.laws_two_ends.proofs.ResponseLemmas.{asked_spelled as auth_spelled, response_octets}
+use Rattle.laws_two_ends.proofs.SoundnessLemmas.{sound_next, timely_alone, NoSpiIsLost, OneMessage, SoundnessStays}
+use Rattle.laws_two_ends.proofs.Stages.{all_steps, asking_table, carried_octets, counted, delivered_world, later_table, probed, probing_world}
+use Rattle.laws_two_ends.proofs.StateLemmas.{in_time_if}
+use Rattle.laws_two_ends.proofs.TableLemmas.{lone_in}
+use Rattle.laws_two_ends.proofs.WorkedRequestLemmas.{answer_spelled, asked_spelled as probe_spelled}
+use Rattle.laws_two_ends.proofs.WorkedRunLemmas.{followed_by, run_is}
+use Rattle.laws_authenticated.specs.WorkedClosings.{the_fifth, CanLeaveAStrangerOut, IsClosedByItsPeer}
+use Rattle.laws_authenticated.specs.WorkedDeletions.{IsRunWithDeletion}
+use Rattle.laws_authenticated.specs.WorkedStrangers.{IsMetByAStranger}
+use Rattle.laws_authenticated.proofs.WorkedDeletionLemmas.{asked_spelled, asks_to_delete, counted_waits_for_none, counts_for_it, deletion_said, delivering, payload_read, request_takes}
+use Rattle.laws_authenticated.proofs.WorkedDeletionStages.{closes, deletes, deleting, deletion_steps, ended, ended_world, ending_world, last, meets, sealed_deletion}
+use Rattle.laws_authenticated.proofs.WorkedStrangerLemmas.{clear_spelled, clear_takes, is_strange, opens_under_none}
 
--- ---- the octets
+-- ---- the steps of a world at one end
 
-spelled : Spells deletion_under_keys sealed_deletion
-spelled = record {
-  first = 46;
-  header = 0 ∷ 0 ∷ 0 ∷ 0 ∷ 0 ∷ 0 ∷ 0 ∷ 1 ∷ 0 ∷ 0 ∷ 0 ∷ 0 ∷ 0 ∷ 0 ∷ 0 ∷ 2 ∷ 46 ∷ 0x20 ∷ 37 ∷ 0x08 ∷ 0 ∷ 0 ∷ 0 ∷ 2 ∷ [];
-  payloads = 42 ∷ 0 ∷ 0 ∷ 12 ∷ deletion_payload;
-  whole = refl;
-  head = record {
-    flags = 8;
-    has_flags = record { low = 0; high = 0; value = refl; low_bits = omega arith; high_bits = omega arith; free = (omega arith, omega arith) };
-    spelled = refl;
-    spi_i = omega arith;
-    spi_r = omega arith;
-    minor = omega arith;
-    id = omega arith;
-  };
-  chain = (
-    refl,
-    42,
-    record {
-      front = 42 ∷ 0 ∷ 0 ∷ 12 ∷ deletion_payload;
-      rest = [];
-      joined = refl;
-      first = record { second = 0; body = deletion_payload; part = record { spelled = refl; fits = omega arith }; header = (refl, omega arith); inside = refl };
-      others = (refl, refl);
-    },
-  );
-  limit = omega arith;
-  octets = octets_if sealed_deletion refl;
+-- a step in front of a trail: one of this end, or none
+front_trail : {C : Type 0} (meaning_of : C → Meaning) (end place : End) (input : Input) (s : OutputView) (before after : WorldState C) (gateway : State C) (trace : Trace) (stored : Stored)
+    (ps : List (Passage C)) (new : State C) → IsSoundState (gateway_at place before)
+    → Traces (meaning_of (gateway_at place before).caller) input (gateway_at place before) s trace gateway → after ≡ with_gateway place gateway stored before
+    → IsTrail meaning_of (gateway_at end after) ps new
+    → IsTrail meaning_of (gateway_at end before) (if_at end place (record { before = gateway_at end before; given = input; said = s; after = gateway_at end after }) ps) new
+front_trail {C} meaning_of A A input s before after gateway trace stored ps new sound traces same rest =
+    let own = subst (λ (g : State C). Traces (meaning_of before.a.caller) input before.a s trace g) (sym (ap (λ (w : WorldState C). w.a) same)) traces in
+    (refl, record { sound = sound; steps = record { trace = trace; traces = own } }, rest)
+front_trail {C} meaning_of B B input s before after gateway trace stored ps new sound traces same rest =
+    let own = subst (λ (g : State C). Traces (meaning_of before.b.caller) input before.b s trace g) (sym (ap (λ (w : WorldState C). w.b) same)) traces in
+    (refl, record { sound = sound; steps = record { trace = trace; traces = own } }, rest)
+front_trail {C} meaning_of A B input s before after gateway trace stored ps new sound traces same rest = subst (λ (w : WorldState C). IsTrail meaning_of w.a ps new) same rest
+front_trail {C} meaning_of B A input s before after gateway trace stored ps new sound traces same rest = subst (λ (w : WorldState C). IsTrail meaning_of w.b ps new) same rest
+
+trail_at : {C : Type 0} (meaning_of : C → Meaning) (end : End) (hs : List (Happening C)) (old new : WorldState C) → IsWorldTrail meaning_of old hs new
+    → IsTrail meaning_of (gateway_at end old) (passages_at end hs) (gateway_at end new)
+trail_at {C} meaning_of end [] old new trail = ap (λ (w : WorldState C). gateway_at end w) trail
+trail_at {C} meaning_of end (h ∷ hs) old new trail =
+    subst (λ (w : WorldState C). IsTrail meaning_of (gateway_at end w) (passages_at end (h ∷ hs)) (gateway_at end new)) trail.0
+    (front_trail meaning_of end h.event.end h.event.input h.said h.before h.after trail.1.gateway trail.1.trace _ (passages_at end hs) (gateway_at end new) trail.1.sound trail.1.traces trail.1.content
+    (trail_at meaning_of end hs h.after new trail.2))
+
+-- ---- what holds of each step that is left out
+
+abbrev AllOut : {C : Type 0} → (Passage C → Type 0) → List Bool → List (Passage C) → Type 0
+AllOut {C} P [] ps = ⊤
+AllOut {C} P (m ∷ ms) [] = ⊤
+AllOut {C} P (true ∷ ms) (p ∷ ps) = P p × AllOut P ms ps
+AllOut {C} P (false ∷ ms) (p ∷ ps) = AllOut P ms ps
+
+each_out : {C : Type 0} (P : Passage C → Type 0) (marks : List Bool) (ps : List (Passage C)) → AllOut P marks ps → EachLeftOut P marks ps
+each_out {C} P [] ps all place p marked there = absurd (none-some true marked)
+each_out {C} P (m ∷ ms) [] all place p marked there = absurd (none-some p there)
+each_out {C} P (true ∷ ms) (q ∷ qs) all zero p marked there = subst P (some_is q p there) all.0
+each_out {C} P (false ∷ ms) (q ∷ qs) all zero p marked there = absurd cc
+each_out {C} P (true ∷ ms) (q ∷ qs) all (suc place) p marked there = each_out P ms qs all.1 place p marked there
+each_out {C} P (false ∷ ms) (q ∷ qs) all (suc place) p marked there = each_out P ms qs all place p marked there
+
+-- ---- the steps of the machine
+
+abbrev meets_step : Stepped
+meets_step = stepped_of 1 3 (effect.Refused NotOpened)
+
+abbrev deletes_step : Stepped
+deletes_step = asking_step 1 3 sealed_deletion
+
+abbrev closes_step : Stepped
+closes_step = stepped_of 1 3 (effect.Replied deletion_said)
+
+counted_in_time : IsInTime 0 counted
+counted_in_time = in_time_if counted refl (omega arith) (λ n r is. absurd (none_found counted.outgoing.outstanding counted_waits_for_none n r is))
+
+probed_in_time : IsInTime 0 probed
+probed_in_time = in_time_if probed refl (omega arith) (λ n r is. absurd (none_found map.empty refl n r is))
+
+nothing_told : (fresh : Fresh) → TellsLengths run_meaning.body_of fresh.seal
+nothing_told fresh = record { told = λ keys whole. record { told = λ head other plain one two octets. refl } }
+
+-- the datagrams of the run that is gone on with
+abbrev exchanged : Exchanged
+exchanged = record {
+  init_request = request_octets;
+  init_response = answer_octets;
+  auth_request = auth_octets;
+  auth_response = response_octets;
+  packet = carried_octets;
+  probe = worked_request;
+  probe_response = worked_reply;
 }
 
-read : SpellsChain 42 (Delete 1 [] ∷ []) deletion_payload
-read = record {
-  clear = (λ is. omega (arith, is), tt);
-  payloads = (
-    refl,
-    0,
-    record {
-      front = deletion_payload;
-      rest = [];
-      joined = refl;
-      first = record {
-        second = 0;
-        body = 1 ∷ 0 ∷ 0 ∷ 0 ∷ [];
-        part = record { spelled = refl; fits = omega arith };
-        header = omega arith;
-        inside = record { size = 0; list = []; spelled = refl; count = omega arith; sized = inl (refl, refl, refl); each = refl };
-      };
-      others = (refl, refl);
-    },
-  );
-  octets = octets_if deletion_payload refl;
-}
+module _ {C : Type 0} (a b : C) (stays : SoundnessStays) (lost : NoSpiIsLost) where
+  -- ---- both ends where the run that is gone on with ends
 
--- the response, which holds no payloads
-response_spelled : SpellsPlainly answered worked_reply
-response_spelled = record {
-  first = 46;
-  header = 0 ∷ 0 ∷ 0 ∷ 0 ∷ 0 ∷ 0 ∷ 0 ∷ 1 ∷ 0 ∷ 0 ∷ 0 ∷ 0 ∷ 0 ∷ 0 ∷ 0 ∷ 2 ∷ 46 ∷ 0x20 ∷ 37 ∷ 0x20 ∷ 0 ∷ 0 ∷ 0 ∷ 2 ∷ [];
-  payloads = 0 ∷ 0 ∷ 0 ∷ 4 ∷ [];
-  whole = refl;
-  head = record {
-    flags = 32;
-    has_flags = record { low = 0; high = 0; value = refl; low_bits = omega arith; high_bits = omega arith; free = (refl, refl) };
-    spelled = refl;
-    spi_i = omega arith;
-    spi_r = omega arith;
-    minor = omega arith;
-    id = omega arith;
-  };
-  chain = (
-    refl,
-    0,
-    record {
-      front = 0 ∷ 0 ∷ 0 ∷ 4 ∷ [];
-      rest = [];
-      joined = refl;
-      first = record { second = 0; body = []; part = record { spelled = refl; fits = omega arith }; header = (refl, refl); inside = refl };
-      others = (refl, refl);
-    },
-  );
-  limit = omega arith;
-  octets = octets_if worked_reply refl;
-}
+  asking_end_is_sound : IsSoundState (last a b).a
+  asking_end_is_sound =
+      let child = child_one_is_sound a b stays lost (asking_table_is_sound 0) asking_in_time (told_one_is_sound stays lost a b) in
+      sound_next stays lost run_meaning (ike.Message (replicate 4 2) worked_reply (fresh_of 8)) (stepped_of 1 2 (effect.Counted nothing_ended))
+      (probing_world a b response_octets).a (last a b).a (sound_probing a b response_octets stays lost child)
+      (takes_alone (new_machine (config_at A)) all_protected (replicate 4 2) (fresh_of 8) answer_spelled refl refl (reply_takes _ _))
+      (asking_table_is_sound 1) (timely_alone (config_at A) counted counted_in_time)
 
--- ---- the response is kept
+  answering_end_is_sound : IsSoundState (last a b).b
+  answering_end_is_sound =
+      let child = child_other_is_sound a b stays lost answering_table_is_sound (answering_in_time response_octets) (told_other_is_sound stays lost a b) in
+      sound_next stays lost run_meaning (ike.Message (replicate 4 1) worked_request (fresh_of 7)) (stepped_of 1 2 (effect.Replied (reply_by worked_reply)))
+      (delivered_world a b response_octets).b (last a b).b (sound_delivered a b response_octets child)
+      (takes_alone (new_machine (config_at B)) all_protected (replicate 4 1) (fresh_of 7) probe_spelled refl refl (probe_takes response_octets _ _))
+      later_table_is_sound (timely_alone (config_at B) probed probed_in_time)
 
-abbrev with_room : ℕ → PeerRequests
-with_room room = record first_taken { room = room }
+  -- ---- the steps
 
-near_two : ¬ IsLeftBehind one_more_taken 2
-near_two behind = let less = first_three.only behind.later behind.in_effect in let far = behind.far in absurd (omega arith)
-
-reply_kept : map.get one_more_taken.kept 2 ≡ Some worked_reply
-reply_kept = map.get-insert nat_cmp_total first_taken.kept 2 worked_reply 2 ∙ ap (λ b. cond b (Some worked_reply) (map.get first_taken.kept 2)) (unsigned_tied 2 2 ∙ eq-eqb 2 2 refl)
-
-kept_len : map.len one_more_taken.kept ≡ map.len first_taken.kept + 1
-kept_len =
-    map.len-insert nat_cmp_total first_taken.kept 2 worked_reply
-    ∙ ap (λ b. cond b (map.len first_taken.kept) (map.len first_taken.kept + 1)) (ap is_some (map.get-empty nat_cmp 2))
-
-taken : TakesRequest (with_room 1) 2 worked_reply one_more_taken
-taken = record {
-  fresh = fresh_two 1;
-  in_effect = refl;
-  size = refl;
-  kept = λ n octets. (
-    λ is. (is, λ behind. near_two (subst (λ m. IsLeftBehind one_more_taken m) (the_reply n octets is).number behind)),
-    λ both. both.0,
-  );
-  own_reply = reply_kept;
-  room = let len = kept_len in omega arith;
-}
-
--- ---- the step
-
-abbrev response_said : Answered
-response_said = record { octets = worked_reply; fate = fate.Closed }
-
-no_spi : (incoming : PeerRequests) (spi : ℕ) → HoldsSpi (worked_association incoming) spi → ⊥
-no_spi incoming spi (inl is) = cc
-no_spi incoming spi (inr waits) = none_asked waits.number waits.awaits.request waits.awaits.outstanding
-
-no_pair : (child : ℕ) (pair : Pair) → pair_at (empty_table 256).pairs child ≡ Some pair → ⊥
-no_pair child pair there = let none : map.get {R = nat_cmp} (map.empty {X = Pair}) child ≡ None = map.get-empty nat_cmp child in cc
-
-closes : Closes (with_incoming (worked_association first_taken) one_more_taken) (empty_table 256) 0 closed_association (empty_table 256)
-closes = record {
-  between = empty_table 256;
-  released = record {
-    reserved = λ spi. (λ there. (there, λ held. no_spi one_more_taken spi held), λ both. both.0);
-    content = refl;
-    room = omega arith;
-  };
-  removed = record {
-    kept = λ child pair. (λ there. absurd (no_pair child pair there), λ both. both.0);
-    content = refl;
-    room = omega arith;
-  };
-  requests = record { content = refl };
-  content = refl;
-}
-
-takes : (setup : Setup) → setup.moment ≡ 0
-    → TakesMessage worked_meaning setup (worked_association first_taken) (empty_table 256) sealed_deletion deletion_under_keys (effect.Replied response_said) closed_association (empty_table 256)
-takes setup begins = record {
-  reception = receiving.TakesEffect (record { first = 42; octets = deletion_payload });
-  received = record { judgement = judged.Fresh; number = fresh_two 0; whole = refl };
-  done = record {
-    keys = worked_keys;
-    established = refl;
-    payloads = Some (Delete 1 [] ∷ []);
-    read = read;
-    sealed = record { first = 0; plain = []; spelled = (refl, refl); octets = tt; whole = response_spelled };
-    incoming = one_more_taken;
-    ready = with_room 1;
-    prepared = record { content = refl; room = omega arith };
-    taken = taken;
-    fate = refl;
-    concluded = subst (λ n. Closes (with_incoming (worked_association first_taken) one_more_taken) (empty_table 256) n closed_association (empty_table 256)) (sym begins) closes;
-  };
-}
-
-is_over : (a : Association) → Some closed_association ≡ Some a → is_closed a.phase ≡ true
-is_over a same = sym (ap (λ (x : Association). is_closed x.phase) (same_association closed_association a same))
-
-module _ {C : Type 0} (config : Config) (caller : C) (is : IsConfig config) (from : Octets) (fresh : Fresh) where
-  closing : IsPassage (λ _. worked_meaning) (deletion_counts config caller from fresh)
-  closing = record {
-    sound = sound_state config caller is first_taken fine_before;
-    steps = record {
-      trace = (stepped_of 1 2 (effect.Replied response_said)).trace;
-      traces = record {
-        kept = refl;
-        does = inl (record {
-          stepped = stepped_of 1 2 (effect.Replied response_said);
-          steps = (
-            refl,
-            inr (record {
-              message = deletion_under_keys;
-              spelled = spelled;
-              done = record {
-                association = worked_association first_taken;
-                there = refl;
-                effect = effect.Replied response_said;
-                changed = closed_association;
-                takes = takes _ refl;
-                said = refl;
-                content = refl;
-              };
-            }),
-          );
-          output = refl;
-          traced = refl;
-        });
-      };
-    };
+  meets_so : Traces run_meaning (meets a b).event.input (last a b).b (meets a b).said meets_step.trace (last a b).b
+  meets_so = record {
+    kept = refl;
+    does = inl (record {
+      stepped = meets_step;
+      steps = takes_alone (new_machine (config_at B)) all_protected (replicate 4 1) (fresh_of 9) clear_spelled refl refl (clear_takes _ _);
+      output = refl;
+      traced = refl;
+    });
   }
 
-  pub closed_by_its_peer : IsClosedByItsPeer config caller from fresh
+  meets_it : TakesEvent (λ _. run_meaning) (meets a b).event (meets a b).before (meets a b).said (meets a b).after
+  meets_it = record {
+    sound = answering_end_is_sound;
+    fresh = sealing 9 (omega arith);
+    trace = meets_step.trace;
+    gateway = (last a b).b;
+    traces = meets_so;
+    content = refl;
+  }
+
+  deletes_so : ike.Steps run_meaning all_protected (ike.Order (orders.DeleteIke 1) (fresh_of 10)) (last a b).a.machine (asking_table 1)
+      deletes_step (ending_world a b).a.machine (asking_table 1)
+  deletes_so = (refl, asks_to_delete (config_at A) all_protected (fresh_of 10) (asking_table 1))
+
+  deletes_it : TakesEvent (λ _. run_meaning) (deletes a b).event (deletes a b).before (deletes a b).said (deletes a b).after
+  deletes_it = record {
+    sound = asking_end_is_sound;
+    fresh = sealing 10 (omega arith);
+    trace = deletes_step.trace;
+    gateway = (ending_world a b).a;
+    traces = record { kept = refl; does = inl (record { stepped = deletes_step; steps = deletes_so; output = refl; traced = refl }) };
+    content = refl;
+  }
+
+  closes_it : TakesEvent (λ _. run_meaning) (closes a b).event (closes a b).before (closes a b).said (closes a b).after
+  closes_it = record {
+    sound = answering_end_is_sound;
+    fresh = sealing 11 (omega arith);
+    trace = closes_step.trace;
+    gateway = (ended_world a b).b;
+    traces = record {
+      kept = refl;
+      does = inl (record {
+        stepped = closes_step;
+        steps = takes_alone (new_machine (config_at B)) all_protected (replicate 4 1) (fresh_of 11) asked_spelled refl refl (request_takes _ refl);
+        output = refl;
+        traced = refl;
+      });
+    };
+    content = refl;
+  }
+
+  deletion_run_is : IsWorldTrail (λ _. run_meaning) (new_ends a b) (deletion_steps a b) (ended_world a b)
+  deletion_run_is =
+      followed_by (λ _. run_meaning) (all_steps a b response_octets) (meets a b ∷ deletes a b ∷ closes a b ∷ []) (new_ends a b) (last a b) (ended_world a b)
+      (run_is a b stays lost) (refl, meets_it, (refl, deletes_it, (refl, closes_it, refl)))
+
+  abbrev run : IsRunWithDeletion a b
+  run = record {
+    exchanged = exchanged;
+    deleting = deleting;
+    happenings = deletion_steps a b;
+    last = ended_world a b;
+    takes = refl;
+    says = refl;
+    trail = deletion_run_is;
+    can_be = can_be;
+  }
+
+  -- ---- the stranger
+
+  pub met_by_a_stranger : OneMessage → IsMetByAStranger a b
+  met_by_a_stranger one = record {
+    run = run;
+    meeting = passage_at B (meets a b);
+    there = refl;
+    is = record { sound = answering_end_is_sound; steps = record { trace = meets_step.trace; traces = meets_so } };
+    comes = refl;
+    established = record { association = probed; there = refl; established = refl };
+    spelled = clear_spelled;
+    meant = refl;
+    unopened = λ plain_of x. opens_under_none plain_of x.role (keys_in x.phase);
+    strange = is_strange one run_meaning (last a b).b.machine.held;
+    as_it_was = record { content = refl; table = record { content = refl; room = omega arith } };
+    counted = counts_for_it;
+  }
+
+  -- ---- the IKE SA is closed
+
+  abbrev passages : List (Passage C)
+  passages = passages_at B (deletion_steps a b)
+
+  trail_is : IsTrail (λ _. run_meaning) (gateway_at B (new_ends a b)) passages (gateway_at B (ended_world a b))
+  trail_is = trail_at (λ _. run_meaning) B (deletion_steps a b) (new_ends a b) (ended_world a b) deletion_run_is
+
+  no_pair_yet : EachPairIsOfAnEstablished (gateway_at B (new_ends a b))
+  no_pair_yet = record { each = λ child pair there. absurd (none_found map.empty refl child pair there) }
+
+  -- the one pair names the one IKE SA
+  named : (child : ℕ) (pair : Pair) → pair_at later_table.pairs child ≡ Some pair → pair.ike ≡ 1
+  named child pair there = ap (λ (p : Pair). p.ike) ((lone_in delivering).only child pair there).content
+
+  established_now : IsEstablishedNow (last a b).b 1
+  established_now = record { keys = worked_record; established = record { association = probed; there = refl; established = refl } }
+
+  all_before : EachPairIsOfAnEstablished (last a b).b
+  all_before = record { each = λ child pair there. subst (λ (serial : ℕ). IsEstablishedNow (last a b).b serial) (sym (named child pair there)) established_now }
+
+  is_over : IsOver (ended_world a b).b 1
+  is_over = record { closed = λ x there. sym (ap (λ (y : Association). is_closed y.phase) (some_is ended x there)) }
+
+  nothing_left : HasNothingLeft (ended_world a b).b 1
+  nothing_left = record { over = is_over; none = λ child pair there. absurd (none_found map.empty refl child pair there) }
+
+  pub closed_by_its_peer : IsClosedByItsPeer a b
   closed_by_its_peer = record {
-    trail = (refl, step config caller is from fresh, (refl, closing, refl));
-    spelled = spelled;
-    all = record { each = λ child pair there. absurd (no_pair child pair there) };
+    run = run;
+    trail = trail_is;
+    all = no_pair_yet;
     over = record {
-      earlier = 1;
+      earlier = 5;
       before = omega arith;
-      first = deletion_counts config caller from fresh;
+      first = passage_at B (closes a b);
       first_there = refl;
-      association = worked_association first_taken;
+      association = probed;
       held = refl;
-      passage = deletion_counts config caller from fresh;
+      passage = passage_at B (closes a b);
       there = refl;
-      over = record { closed = λ a there. is_over a there };
+      over = is_over;
     };
+    closing = passage_at B (closes a b);
+    there = refl;
+    comes = refl;
+    spelled = asked_spelled;
+    inside = payload_read;
+    counted = counts_for_it;
+    all_before = all_before;
+    pair = delivering;
+    stood = (lone_in delivering).there;
+    its = refl;
+    answers = refl;
+    left = nothing_left;
   }
 
-  -- the place of the only mark
-  left_out : IsStrange worked_meaning (deletion_comes config caller from fresh).before (deletion_comes config caller from fresh).given → EachLeftOut (IsWithoutEffect (λ _. worked_meaning)) (true ∷ []) (worked_deletions config caller from fresh)
-  left_out strange zero p marked there = subst (λ (x : Passage C). IsWithoutEffect (λ _. worked_meaning) x) (same_Some (deletion_comes config caller from fresh) p there) (inl strange)
-  left_out strange (suc place) p marked there = absurd (none-some true marked)
+  -- ---- the stranger is left out
 
-  nothing_told : TellsLengths worked_meaning.body_of fresh.seal
-  nothing_told = record { told = λ keys whole. record { told = λ head other plain one two octets. refl } }
+  -- where that datagram came, B was as it is before the next
+  rest_is : IsTrail (λ _. run_meaning) (gateway_at B (new_ends a b)) (without the_fifth passages) (gateway_at B (ended_world a b))
+  rest_is =
+      let t = trail_is in (
+        refl,
+        t.1,
+        (refl, t.2.1, (refl, t.2.2.1, (refl, t.2.2.2.1, (refl, t.2.2.2.2.2.1, refl)))),
+      )
 
-  pub stranger_left_out : IsStrange worked_meaning (deletion_comes config caller from fresh).before (deletion_comes config caller from fresh).given → CanLeaveAStrangerOut config caller from fresh
-  stranger_left_out strange = record {
+  pub stranger_left_out : OneMessage → CanLeaveAStrangerOut a b
+  stranger_left_out one = record {
+    run = run;
     alike = record {
-      first = closed_by_its_peer.trail;
-      second = (refl, closing, refl);
+      first = trail_is;
+      second = rest_is;
       inputs = refl;
-      each = ((octets_if sealed_deletion refl, nothing_told), tt);
-      memory = (refl, tt);
-      memory_too = (refl, tt);
+      each = (
+        (request_read.octets, nothing_told (fresh_of 2)),
+        ((auth_spelled.octets, nothing_told (fresh_of 4)), (tt, ((probe_spelled.octets, nothing_told (fresh_of 7)), ((asked_spelled.octets, nothing_told (fresh_of 11)), tt)))),
+      );
+      memory = (refl, (refl, (refl, (refl, (refl, tt)))));
+      memory_too = (refl, (refl, (refl, (refl, (refl, tt)))));
     };
-    out = left_out strange;
+    out = each_out (IsWithoutEffect (λ _. run_meaning)) the_fifth passages (inl (is_strange one run_meaning (last a b).b.machine.held), tt);
     nothing_out = λ place p marked there. absurd (none-some true marked);
   }

@@ -1,6 +1,8 @@
 -- Who proved what, and the partner of an IKE SA that is established (RFC 7296 sections 1.2, 2.10 and 2.15).
 use Rattle.std.specs.Prelude.{◌≡◌, ◌⊎◌, ◌<◌, ℕ, List, Some, slice_get}
 use Rattle.base.specs.Octets.{Octets}
+use Rattle.mac.specs.Hmac.{hmac_sha256}
+use Rattle.suite.specs.SignedOctets.{rest_of_id}
 use Rattle.suite.specs.declared.key_record.KeyRecord.{KeyRecord}
 use Rattle.exchange.specs.declared.headers.Role.TheVariants.{Initiator, Responder}
 use Rattle.association.specs.declared.phase.Association.{Association}
@@ -18,7 +20,7 @@ use Rattle.gateway.specs.States.{association_in}
 use Rattle.gateway.specs.WorldHistories.{Happening}
 use Rattle.gateway.specs.Worlds.{gateway_at, other_end}
 use Rattle.gateway.specs.declared.world.stored.End.{End}
-use Rattle.gateway.specs.Exchanges.{AnswersRequest, HaveExchanged, ReadsResponse, SendsRequest}
+use Rattle.gateway.specs.Exchanges.{AnswersRequest, HaveExchanged, HoldsWith, ReadsResponse, SendsRequest}
 
 -- ---- what is proved
 
@@ -125,3 +127,48 @@ pub record HasPartner {C : Type 0} (happenings : List (Happening C)) (place : �
   pub association : Association
   pub there : association_in (gateway_at (other_end end) accepts.after) partner ≡ Some association
   pub established : association.phase ≡ phase.Established keys
+
+-- ---- the partner of a responder
+
+-- With this step an IKE SA of an end is established, which was half-open before it.
+pub record IsEstablishedAsResponder {C : Type 0} (h : Happening C) (end : End) (serial : ℕ) (keys : KeyRecord) : Type 0 where
+  pub at : h.event.end ≡ end
+  pub was : Association
+  pub stood : association_in (gateway_at end h.before) serial ≡ Some was
+  pub opened : HalfOpen
+  pub waited : was.phase ≡ phase.HalfOpen opened
+  pub is : Association
+  pub there : association_in (gateway_at end h.after) serial ≡ Some is
+  pub established : is.phase ≡ phase.Established keys
+
+-- No two records of keys prove alike. Where an end holds an IKE SA under one after a step, and an end one under
+-- another before a step, prf (SK_pi, RestOfInitIDPayload) is another, of whatever identities (section 2.15).
+pub record NoTwoRecordsProveAlike {C : Type 0} (happenings : List (Happening C)) : Type 0 where
+  pub each : (place other : ℕ) (h g : Happening C) (end another : End) (serial number : ℕ) (one two : KeyRecord) (own peer : Identity)
+      → slice_get happenings place ≡ Some h
+      → slice_get happenings other ≡ Some g
+      → HoldsWith h.after end serial one
+      → HoldsWith g.before another number two
+      → hmac_sha256 one.sk_pi (rest_of_id own.kind own.data) ≡ hmac_sha256 two.sk_pi (rest_of_id peer.kind peer.data)
+      → one ≡ two
+
+-- A partner of a responder is the other end's IKE SA with this serial. That one sent the very request of
+-- IKE_SA_INIT that this one keeps as what it was made of. It read a response at a later step, before this
+-- place, and asked by IKE_AUTH then, under the same record of keys, with both nonces and SPIs. Whether it is
+-- established, or will be, isn't said; nor that it read the very response that this end answered.
+pub record HasAsker {C : Type 0} (happenings : List (Happening C)) (place : ℕ) (end : End) (opened : HalfOpen) (keys : KeyRecord) : Type 0 where
+  pub partner : ℕ
+  pub asked : ℕ
+  pub asks : Happening C
+  pub asks_there : slice_get happenings asked ≡ Some asks
+  pub sends : SendsRequest asks (other_end end) partner opened.request
+  pub by : ℕ
+  pub earlier : by < place
+  pub first : asked < by
+  pub reader : Happening C
+  pub reader_there : slice_get happenings by ≡ Some reader
+  pub response : Octets
+  pub reads : ReadsResponse reader (other_end end) partner response
+  pub told : AuthSent
+  pub tells : reads.is.phase ≡ phase.AuthSent told
+  pub same_keys : told.keys ≡ keys

@@ -1,3 +1,4 @@
+pub mod WorkedDeletions
 pub mod WorkedStrangers
 pub mod WorkedClosings
 pub mod Agreeing

@@ -1,72 +1,57 @@
--- A worked step with which an IKE SA is closed: its peer asks under its keys to delete it (RFC 7296 section
--- 1.4.1). Before that the same was asked in clear.
-use Rattle.std.specs.Prelude.{◌+◌, Some, List, [], ◌∷◌, true}
-use Rattle.std.specs.FinMap as map
-use Rattle.base.specs.Octets.{Octets}
+-- A worked step with which an IKE SA is closed, in a run from two new gateways on: its peer asks under its
+-- keys to delete it (RFC 7296 section 1.4.1). Before that a stranger asked for the same in clear.
+use Rattle.std.specs.Prelude.{◌≡◌, ◌∷◌, Bool, false, true, List, [], Some, slice_get}
 use Rattle.wire.specs.Messages.{Spells}
-use Rattle.wire.specs.declared.message.Message.{Message}
-use Rattle.wire.specs.declared.payload.Payload.TheVariants.{Sealed}
-use Rattle.suite.specs.declared.fresh.Fresh.{Fresh}
-use Rattle.requests.specs.Outgoing.{OwnRequests}
-use Rattle.association.specs.declared.phase.Association.{Association}
-use Rattle.association.specs.declared.phase.Phase.TheVariants.{Closed}
-use Rattle.association.specs.declared.phase.Request.{Request}
-use Rattle.setup.specs.declared.config.Config.{Config}
-use Rattle.gateway.specs.Histories.{IsTrail, Passage}
-use Rattle.gateway.specs.Inputs as input
-use Rattle.gateway.specs.Outputs.{Reply}
-use Rattle.gateway.specs.WorkedRequests.{first_taken, gateway_with, one_more_taken, worked_association, worked_keys, worked_meaning, worked_reply}
+use Rattle.wire.specs.Payloads.{SpellsChain}
+use Rattle.sadb.specs.Database.{pair_at}
+use Rattle.sadb.specs.declared.pair.Pair.{Pair}
 use Rattle.gateway.specs.Carrying.{EachPairIsOfAnEstablished}
-use Rattle.gateway.specs.LeavingOut.{AreGivenAlike, EachLeftOut, IsRightlyGiven, IsWithoutEffect}
-use Rattle.gateway.specs.Closing.{IsOverBy}
-use Rattle.laws_authenticated.specs.WorkedStrangers.{deletion, deletion_comes}
+use Rattle.gateway.specs.Closing.{HasNothingLeft, IsOverBy}
+use Rattle.gateway.specs.Histories.{IsTrail, Passage}
+use Rattle.gateway.specs.LeavingOut.{without, AreGivenAlike, EachLeftOut, IsRightlyGiven, IsWithoutEffect}
+use Rattle.gateway.specs.Outputs.{Reply}
+use Rattle.gateway.specs.Strangers.{CountsForOne}
+use Rattle.gateway.specs.WorldHistories.{passages_at}
+use Rattle.gateway.specs.Worlds.{gateway_at}
+use Rattle.gateway.specs.declared.world.stored.End.TheVariants.{B}
+use Rattle.laws_two_ends.specs.WorkedRuns.{comes_to, new_ends, run_meaning}
+use Rattle.laws_authenticated.specs.WorkedDeletions.{deletion, deletion_payload, deletion_under_keys, IsRunWithDeletion}
 
--- a Delete payload of the IKE SA (RFC 7296 section 3.11)
-abbrev pub deletion_payload : Octets
-deletion_payload = 0 ∷ 0 ∷ 0 ∷ 8 ∷ 1 ∷ 0 ∷ 0 ∷ 0 ∷ []
+-- B's steps are steps of a gateway in a row, from a new one on. At the sixth the peer's request comes. It
+-- says under the keys what the stranger said in clear, and counts. Each SA pair is of an established IKE SA
+-- before it, and that of the first Child SA names the one that is to be deleted. With this step that IKE SA
+-- is over, which was held before. The request is answered, and no SA pair that names the IKE SA is left.
+pub record IsClosedByItsPeer {C : Type 0} (a b : C) : Type 0 where
+  pub run : IsRunWithDeletion a b
+  -- premises: how the list begins, and with which step the IKE SA is over
+  pub trail : IsTrail (λ _. run_meaning) (gateway_at B (new_ends a b)) (passages_at B run.happenings) (gateway_at B run.last)
+  pub all : EachPairIsOfAnEstablished (gateway_at B (new_ends a b))
+  pub over : IsOverBy (passages_at B run.happenings) 5 1
+  -- what comes at this step, and what stands before it
+  pub closing : Passage C
+  pub there : slice_get (passages_at B run.happenings) 5 ≡ Some closing
+  pub comes : closing.given ≡ (comes_to B run.deleting.request 11).input
+  pub spelled : Spells deletion_under_keys run.deleting.request
+  pub inside : SpellsChain 42 deletion.payloads deletion_payload
+  pub counted : CountsForOne run_meaning.plain_of closing.before.machine.held run.deleting.request
+  pub all_before : EachPairIsOfAnEstablished closing.before
+  pub pair : Pair
+  pub stood : pair_at closing.before.table.pairs 1 ≡ Some pair
+  pub its : pair.ike ≡ 1
+  -- what comes of it
+  pub answers : closing.said ≡ Reply run.deleting.response (Some 1)
+  pub left : HasNothingLeft closing.after 1
 
--- the deletion that comes in clear, encrypted: by a cipher that hides nothing
-abbrev pub sealed_deletion : Octets
-sealed_deletion =
-    0 ∷ 0 ∷ 0 ∷ 0 ∷ 0 ∷ 0 ∷ 0 ∷ 1 ∷ 0 ∷ 0 ∷ 0 ∷ 0 ∷ 0 ∷ 0 ∷ 0 ∷ 2 ∷ 46 ∷ 0x20 ∷ 37 ∷ 0x08 ∷ 0 ∷ 0 ∷ 0 ∷ 2 ∷ 0 ∷ 0 ∷ 0 ∷ 40
-    ∷ 42 ∷ 0 ∷ 0 ∷ 12 ∷ 0 ∷ 0 ∷ 0 ∷ 8 ∷ 1 ∷ 0 ∷ 0 ∷ 0 ∷ []
+-- the fifth step is left out, at which the stranger's datagram comes
+abbrev pub the_fifth : List Bool
+the_fifth = false ∷ false ∷ false ∷ false ∷ true ∷ []
 
-abbrev pub deletion_under_keys : Message
-deletion_under_keys = record deletion { payloads = Sealed 42 deletion_payload ∷ [] }
-
--- nothing waits for a response any more
-abbrev pub nothing_waits : OwnRequests Request → OwnRequests Request
-nothing_waits own = record own { outstanding = map.empty; room = own.room + map.len own.outstanding }
-
--- the IKE SA after it, closed at time 0, which keeps its response
-abbrev pub closed_association : Association
-closed_association = record (worked_association one_more_taken) { outgoing = nothing_waits (worked_association one_more_taken).outgoing; phase = Closed (Some worked_keys) 0 }
-
-abbrev pub deletion_counts : {C : Type 0} → Config → C → Octets → Fresh → Passage C
-deletion_counts {C} config caller from fresh = record {
-  before = gateway_with config caller (worked_association first_taken);
-  given = input.Ike from sealed_deletion fresh;
-  said = Reply worked_reply (Some 1);
-  after = gateway_with config caller closed_association;
-}
-
-abbrev pub worked_deletions : {C : Type 0} → Config → C → Octets → Fresh → List (Passage C)
-worked_deletions {C} config caller from fresh = deletion_comes config caller from fresh ∷ deletion_counts config caller from fresh ∷ []
-
--- These are steps of a gateway in a row. With the second one the IKE SA is over, which was held before it.
-pub record IsClosedByItsPeer {C : Type 0} (config : Config) (caller : C) (from : Octets) (fresh : Fresh) : Type 0 where
-  pub trail : IsTrail (λ _. worked_meaning) (gateway_with config caller (worked_association first_taken)) (worked_deletions config caller from fresh)
-      (gateway_with config caller closed_association)
-  pub spelled : Spells deletion_under_keys sealed_deletion
-  pub all : EachPairIsOfAnEstablished (gateway_with config caller (worked_association first_taken))
-  pub over : IsOverBy (worked_deletions config caller from fresh) 1 1
-
--- The first of these steps is left out, at which a stranger asks the same. Its premises are met: the gateway
--- that is given the peer's deletion alone is given the rest, and the stranger's datagram is without effect.
--- What both are given brings the IKE SA to its end.
-pub record CanLeaveAStrangerOut {C : Type 0} (config : Config) (caller : C) (from : Octets) (fresh : Fresh) : Type 0 where
-  pub alike : AreGivenAlike (λ _. worked_meaning) (IsRightlyGiven (λ _. worked_meaning)) (true ∷ []) [] (worked_deletions config caller from fresh) (deletion_counts config caller from fresh ∷ [])
-      (gateway_with config caller (worked_association first_taken)) (gateway_with config caller (worked_association first_taken))
-      (gateway_with config caller closed_association) (gateway_with config caller closed_association)
-  pub out : EachLeftOut (IsWithoutEffect (λ _. worked_meaning)) (true ∷ []) (worked_deletions config caller from fresh)
-  pub nothing_out : EachLeftOut (IsWithoutEffect (λ _. worked_meaning)) [] (deletion_counts config caller from fresh ∷ [])
+-- That step of B's is left out. The premises are met: a gateway that isn't given the stranger's datagram is
+-- given the rest, and that datagram is without effect. What both are given brings the IKE SA to its end.
+pub record CanLeaveAStrangerOut {C : Type 0} (a b : C) : Type 0 where
+  pub run : IsRunWithDeletion a b
+  pub alike : AreGivenAlike (λ _. run_meaning) (IsRightlyGiven (λ _. run_meaning)) the_fifth [] (passages_at B run.happenings) (without the_fifth (passages_at B run.happenings))
+      (gateway_at B (new_ends a b)) (gateway_at B (new_ends a b))
+      (gateway_at B run.last) (gateway_at B run.last)
+  pub out : EachLeftOut (IsWithoutEffect (λ _. run_meaning)) the_fifth (passages_at B run.happenings)
+  pub nothing_out : EachLeftOut (IsWithoutEffect (λ _. run_meaning)) [] (without the_fifth (passages_at B run.happenings))

@@ -16,8 +16,8 @@ use Rattle.gateway.specs.declared.world.stored.End.{End}
 use Rattle.gateway.specs.declared.world.stored.End.TheVariants.{A, B}
 use Rattle.laws_two_ends.specs.WorkedRecords.{worked_record, CanBeMeant}
 use Rattle.laws_two_ends.specs.WorkedRuns.{events_of, new_ends, outputs_of, run_meaning, Exchanged}
-use Rattle.laws_authenticated.specs.DrawnNonces.{EachNonceIsDrawnOnce}
-use Rattle.laws_authenticated.specs.Agreeing.{HasPartner, IsEstablishedAsInitiator, IsToBeProved, NoProofIsForged}
+use Rattle.laws_authenticated.specs.DrawnNonces.{EachAnswerDrawsItsNonce, EachNonceIsDrawnOnce}
+use Rattle.laws_authenticated.specs.Agreeing.{HasAsker, HasPartner, IsEstablishedAsInitiator, IsEstablishedAsResponder, IsToBeProved, NoProofIsForged, NoTwoRecordsProveAlike}
 
 -- With this step the check of an end accepts a proof of its peer over these octets, and its IKE SA with this
 -- serial is established by it. Of each such step the premise that no proof is forged asks something.
@@ -34,9 +34,10 @@ pub record AcceptsProof {C : Type 0} (h : Happening C) (end : End) (serial : ℕ
   pub established : is.phase ≡ Established keys
 
 -- There is such a run, for a caller that there can be, of two new gateways that hold nothing: the one in
--- which they set up an IKE SA, and all comes as it was sent. No proof is forged in it, and no nonce is
--- drawn twice. With the fourth step B accepts what A proved as initiator, and with the fifth A accepts what B
--- proved as responder. With that step A's IKE SA is established as initiator, and it has its partner at B.
+-- which they set up an IKE SA, and all comes as it was sent. No proof is forged in it, no nonce is drawn
+-- twice, and no two records of keys prove alike. With the fourth step B accepts what A proved as initiator:
+-- its IKE SA is established as responder, and has its partner at A. With the fifth A accepts what B proved as
+-- responder: its IKE SA is established as initiator, and has its partner at B.
 pub record IsWorkedPartner {C : Type 0} (a b : C) : Type 0 where
   pub exchanged : Exchanged
   pub happenings : List (Happening C)
@@ -49,6 +50,8 @@ pub record IsWorkedPartner {C : Type 0} (a b : C) : Type 0 where
   pub holds_nothing : (end : End) → HoldsNothing (gateway_at end (new_ends a b))
   pub unforged : NoProofIsForged (λ _. run_meaning) happenings
   pub drawn_once : EachNonceIsDrawnOnce happenings
+  pub answered_once : EachAnswerDrawsItsNonce happenings
+  pub apart : NoTwoRecordsProveAlike happenings
   -- where a proof is accepted
   pub accepting : Happening C
   pub accepts : slice_get happenings 3 ≡ Some accepting
@@ -61,3 +64,5 @@ pub record IsWorkedPartner {C : Type 0} (a b : C) : Type 0 where
   -- who is established then, and has a partner
   pub established : IsEstablishedAsInitiator concluding A 1 worked_record
   pub partner : HasPartner happenings 4 A 1 worked_record
+  pub responds : IsEstablishedAsResponder accepting B 1 worked_record
+  pub asker : HasAsker happenings 3 B responds.opened worked_record

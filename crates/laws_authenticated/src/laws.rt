@@ -1,9 +1,7 @@
 //! What follows from the definitions alone. No function here does anything.
 ghost use Rattle.std.specs.Prelude.{◌≡◌, ℕ, List, Some, slice_get};
 ghost use Rattle.base.specs.Octets.{Octets};
-ghost use Rattle.suite.specs.declared.fresh.Fresh.{Fresh};
 ghost use Rattle.policy.specs.declared.entry.Entry.{Entry};
-ghost use Rattle.setup.specs.Configs.{IsConfig};
 ghost use Rattle.setup.specs.declared.config.Config.{Config};
 ghost use Rattle.suite.specs.declared.key_record.KeyRecord.{KeyRecord};
 ghost use Rattle.effects.specs.Taking.{meaning_of, Meaning};
@@ -13,30 +11,33 @@ ghost use Rattle.gateway.specs.Outputs.{Sealed};
 ghost use Rattle.gateway.specs.WorldHistories.{Happening, IsWorldHistory, IsWorldTrail, passages_at};
 ghost use Rattle.gateway.specs.Worlds.{HoldsNothing, WorldState, gateway_at};
 ghost use Rattle.gateway.specs.declared.world.stored.End.{End};
+ghost use Rattle.association.specs.declared.phase.HalfOpen.{HalfOpen};
 ghost use Rattle.gateway.specs.States.{State, new_gateway};
 ghost use Rattle.gateway.specs.declared.output.Output.{Output};
 ghost use Rattle.gateway.specs.Carrying.{EachPairIsOfAnEstablished, KeepsSettings, OnlyTheKnownCarry, OnlyTheProvedCarry, SealsWhatIsProtected};
 ghost use Rattle.gateway.specs.Closing.{IsOverBy, NothingIsCarriedAfter};
 ghost use Rattle.gateway.specs.Inside.{LiesInside};
-ghost use Rattle.laws_authenticated.specs.Agreeing.{IsEstablishedAsInitiator, HasPartner, NoProofIsForged};
+ghost use Rattle.laws_authenticated.specs.Agreeing.{HasAsker, HasPartner, IsEstablishedAsInitiator, IsEstablishedAsResponder};
+ghost use Rattle.laws_authenticated.specs.Agreeing.{NoProofIsForged, NoTwoRecordsProveAlike};
 ghost use Rattle.laws_authenticated.specs.WorkedClosings.{CanLeaveAStrangerOut, IsClosedByItsPeer};
 ghost use Rattle.laws_authenticated.specs.WorkedPartners.{IsWorkedPartner};
-ghost use Rattle.laws_authenticated.specs.DrawnNonces.{EachNonceIsDrawnOnce};
+ghost use Rattle.laws_authenticated.specs.DrawnNonces.{EachAnswerDrawsItsNonce, EachNonceIsDrawnOnce};
 ghost use Rattle.laws_authenticated.specs.WorkedStrangers.{IsMetByAStranger};
 
 use effects::laws::associations_stay_themselves;
 use gateway::laws::each_end_has_its_events;
 use ike::laws::{
     both_ends_make_one_record, children_are_made_of_their_messages, each_association_is_sound,
-    each_association_was_there_or_came, first_requests_tell_what_is_held,
-    keys_come_by_what_is_read, no_spi_is_lost, requests_are_remembered, soundness_stays,
-    steps_keep_their_laws, the_established_proved_themselves, traces_name_what_is_held,
-    who_asks_has_read, who_is_half_open_was_so, who_waits_keeps_its_offer,
+    each_association_was_there_or_came, first_messages_introduce_their_senders,
+    first_requests_tell_what_is_held, keys_come_by_what_is_read, no_spi_is_lost,
+    requests_are_remembered, soundness_stays, steps_keep_their_laws,
+    the_established_proved_themselves, traces_name_what_is_held, who_asks_has_read,
+    who_is_half_open_was_so, who_waits_keeps_its_offer,
 };
 use moments::laws::{pairs_go_with_their_associations, some_are_held_on, what_is_held_was_held};
 use suite::{Agreement, Proof, Sealer};
 use traffic::laws::later_tables_follow;
-use wire::laws::{octets_spell_one_message, plain_spellings_are_spellings};
+use wire::laws::octets_spell_one_message;
 
 /// Each SA pair in the table belongs to an IKE SA that is held and established (RFC 4301, section 4.4.2):
 /// in a new gateway, which has no pair, and after every step of a gateway of which it held before. So where
@@ -191,35 +192,41 @@ pub fn children_lie_inside_the_policy<C>()
     some_are_held_on();
 }
 
-/// The premises of [`strangers_change_nothing`] are met by a gateway that holds keys. It holds an established
-/// IKE SA, and a datagram with its SPIs and the Message ID that is due asks to delete it, and isn't encrypted
-/// (RFC 7296, sections 1.4 and 1.4.1). It opens under no keys, and so it is strange: the gateway drops it and
-/// stays as it was. The peer's own request with the same SPIs and Message ID would count.
+/// The premises of `gateway::laws::strangers_change_nothing` are met by a gateway that holds keys, in a run
+/// of two new gateways that set up an IKE SA with its first Child SA. A datagram with the SPIs of that IKE
+/// SA and the Message ID that is due asks to delete it, and isn't encrypted (RFC 7296, sections 1.4 and
+/// 1.4.1). It opens under no keys, and so it is strange: the gateway drops it and stays as it was. The
+/// request of the peer that comes next, with the same SPIs and Message ID, would count there.
 ///
-/// So it is whatever the configuration, the caller's value, the source address and the fresh octets. The
-/// caller's cipher hides nothing, and all laws of its traits hold.
-pub fn a_stranger_is_met_by_a_worked_gateway<C>()
-    ensures { (config : Config) (caller : C) (from : Octets) (fresh : Fresh) → IsConfig config
-        → IsMetByAStranger config caller from fresh }
+/// So it is for whatever values of whatever type. What the callers mean is fixed, hides nothing, and keeps
+/// the laws of the traits.
+pub fn a_stranger_is_met_from_new_gateways_on<C>()
+    ensures { (a b : C) → IsMetByAStranger a b }
 {
+    no_spi_is_lost();
     octets_spell_one_message();
+    soundness_stays();
 }
 
-/// The premises of [`a_closed_association_carries_nothing_more`] are met by the same gateway. The deletion
-/// comes in clear, which changes nothing. Then it comes encrypted, as the peer may send it: the IKE SA is
-/// closed, and the deletion answered (RFC 7296, section 1.4.1). The table has no SA pairs.
-pub fn an_association_is_closed_by_its_peer<C>()
-    ensures { (config : Config) (caller : C) (from : Octets) (fresh : Fresh) → IsConfig config
-        → IsClosedByItsPeer config caller from fresh }
-{}
-
-/// The premises of `gateway::laws::what_has_no_effect_can_be_left_out` are met by the same gateway: the
-/// stranger's datagram is left out, and the peer's own brings the IKE SA to its end as it does with it.
-pub fn a_stranger_is_left_out_of_a_worked_run<C>()
-    ensures { (config : Config) (caller : C) (from : Octets) (fresh : Fresh) → IsConfig config
-        → CanLeaveAStrangerOut config caller from fresh }
+/// The premises of [`a_closed_association_carries_nothing_more`] are met, by the same run. The deletion comes
+/// in clear, which changes nothing. Then the peer is told to delete the IKE SA, and its request comes
+/// encrypted. The IKE SA is closed, and the deletion answered (RFC 7296, section 1.4.1). The SA pair of its
+/// Child SA stood before that step, and goes with it.
+pub fn an_association_is_closed_by_its_peer_from_new_gateways_on<C>()
+    ensures { (a b : C) → IsClosedByItsPeer a b }
 {
-    a_stranger_is_met_by_a_worked_gateway::<C>();
+    no_spi_is_lost();
+    soundness_stays();
+}
+
+/// The premises of `gateway::laws::what_has_no_effect_can_be_left_out` are met, by the same run. The
+/// stranger's datagram is left out, and the peer's own brings the IKE SA to its end as it does with it.
+pub fn a_stranger_is_left_out_from_new_gateways_on<C>()
+    ensures { (a b : C) → CanLeaveAStrangerOut a b }
+{
+    no_spi_is_lost();
+    octets_spell_one_message();
+    soundness_stays();
 }
 
 /// An established initiator has a partner (RFC 7296, sections 1.2, 2.10 and 2.15). Take a world of two new
@@ -232,7 +239,7 @@ pub fn a_stranger_is_left_out_of_a_worked_run<C>()
 /// Two things are assumed. No proof is forged: where an end's check accepts a proof of its peer over some octets,
 /// and an IKE SA is established by it, the other end had proved these octets before (`NoProofIsForged`). And no
 /// end is given one nonce twice, as fresh octets of two steps with which it begins an IKE SA
-/// (`EachNonceIsDrawnOnce`). Neither of a responder nor of a second partner anything is said.
+/// (`EachNonceIsDrawnOnce`). That it has no second partner, [`a_partner_is_the_only_one`] says.
 pub fn an_established_initiator_has_a_partner<C: Sealer + Agreement + Proof>()
     ensures { (happenings : List (Happening C)) (old new : WorldState C)
         → IsWorldTrail
@@ -252,10 +259,10 @@ pub fn an_established_initiator_has_a_partner<C: Sealer + Agreement + Proof>()
     children_are_made_of_their_messages();
     each_association_is_sound();
     each_association_was_there_or_came();
+    first_messages_introduce_their_senders();
     first_requests_tell_what_is_held();
     keys_come_by_what_is_read();
     octets_spell_one_message();
-    plain_spellings_are_spellings();
     soundness_stays();
     the_established_proved_themselves();
     traces_name_what_is_held();
@@ -264,12 +271,97 @@ pub fn an_established_initiator_has_a_partner<C: Sealer + Agreement + Proof>()
     who_waits_keeps_its_offer();
 }
 
-/// The premises of [`an_established_initiator_has_a_partner`] are met, by a run of two new gateways that set
-/// up an IKE SA with its first Child SA (RFC 7296, section 1.2). Every datagram comes once, as it was sent.
+/// An established responder has a partner (RFC 7296, sections 1.2, 2.10 and 2.15). Take a world of two new
+/// gateways, any history of it, and a step at which the request of IKE_AUTH establishes an IKE SA of one end.
+///
+/// The other end had sent the very request of IKE_SA_INIT that this IKE SA was made of. At a later step it had
+/// read a response and asked by IKE_AUTH, under the same keys as this IKE SA now has.
+///
+/// Two things are assumed. No proof is forged (`NoProofIsForged`). And no two records of keys under which the
+/// ends hold IKE SAs prove alike (`NoTwoRecordsProveAlike`), since what an initiator proves names its keys by a
+/// MAC of its identity alone. That the other end read the very response, isn't said: it tells that by the proof
+/// that this end gives now, so [`an_established_initiator_has_a_partner`] says it of an end that took that.
+pub fn an_established_responder_has_a_partner<C: Sealer + Agreement + Proof>()
+    ensures { (happenings : List (Happening C)) (old new : WorldState C)
+        → IsWorldTrail
+        (meaning_of C.Sealer C.Agreement C.Proof)
+        old happenings new
+        → ((end : End) → HoldsNothing (gateway_at end old))
+        → NoProofIsForged
+        (meaning_of C.Sealer C.Agreement C.Proof)
+        happenings
+        → NoTwoRecordsProveAlike happenings
+        → (place serial : ℕ) (h : Happening C) (end : End) (keys : KeyRecord)
+        → slice_get happenings place ≡ Some h
+        → (is : IsEstablishedAsResponder h end serial keys) → HasAsker happenings place end is.opened keys }
+{
+    associations_stay_themselves();
+    children_are_made_of_their_messages();
+    each_association_is_sound();
+    each_association_was_there_or_came();
+    first_messages_introduce_their_senders();
+    first_requests_tell_what_is_held();
+    keys_come_by_what_is_read();
+    octets_spell_one_message();
+    soundness_stays();
+    the_established_proved_themselves();
+    traces_name_what_is_held();
+    who_asks_has_read();
+    who_is_half_open_was_so();
+    who_waits_keeps_its_offer();
+}
+
+/// A partner is the only one (RFC 7296, section 2.10). Over every history of two new gateways, all that an end's
+/// IKE SAs of one record of keys have as partners is one IKE SA of the other end.
+///
+/// - `initiator`: where no end answers two requests of IKE_SA_INIT with one nonce (`EachAnswerDrawsItsNonce`).
+/// - `responder`: where no end begins two IKE SAs with one nonce (`EachNonceIsDrawnOnce`).
+///
+/// Whatever else is forged, and at whichever steps the two partners are found.
+pub fn a_partner_is_the_only_one<C: Sealer + Agreement + Proof>()
+    ensures initiator { (happenings : List (Happening C)) (old new : WorldState C)
+        → IsWorldTrail
+        (meaning_of C.Sealer C.Agreement C.Proof)
+        old happenings new
+        → EachAnswerDrawsItsNonce happenings
+        → (place other : ℕ) (end : End) (serial another : ℕ) (keys : KeyRecord)
+        → (one : HasPartner happenings place end serial keys) → (two : HasPartner happenings other end another keys)
+        → one.partner ≡ two.partner }
+    ensures responder { (happenings : List (Happening C)) (old new : WorldState C)
+        → IsWorldTrail
+        (meaning_of C.Sealer C.Agreement C.Proof)
+        old happenings new
+        → ((end : End) → HoldsNothing (gateway_at end old))
+        → EachNonceIsDrawnOnce happenings
+        → (place other : ℕ) (end : End) (opened another : HalfOpen) (keys : KeyRecord)
+        → (one : HasAsker happenings place end opened keys) → (two : HasAsker happenings other end another keys)
+        → one.partner ≡ two.partner }
+{
+    associations_stay_themselves();
+    both_ends_make_one_record::<C>();
+    children_are_made_of_their_messages();
+    each_association_is_sound();
+    each_association_was_there_or_came();
+    first_messages_introduce_their_senders();
+    first_requests_tell_what_is_held();
+    keys_come_by_what_is_read();
+    octets_spell_one_message();
+    soundness_stays();
+    the_established_proved_themselves();
+    traces_name_what_is_held();
+    who_asks_has_read();
+    who_is_half_open_was_so();
+    who_waits_keeps_its_offer();
+}
+
+/// The premises of [`an_established_initiator_has_a_partner`], [`an_established_responder_has_a_partner`] and
+/// [`a_partner_is_the_only_one`] are met, by a run of two new gateways that set up an IKE SA with its first
+/// Child SA (RFC 7296, section 1.2). Every datagram comes once, as it was sent.
 ///
 /// No proof is forged in it. Each end accepts a proof of the other one, over octets that this one had proved
-/// before, so that premise asks something at either end. No nonce is drawn twice, since no end begins a second
-/// IKE SA. The end that began is established by the response of IKE_AUTH, and has its partner at the other.
+/// before, so that premise asks something at either end. No nonce is drawn twice, since no end begins or makes a
+/// second IKE SA, and there is one record of keys. The end that answered is established by the request of
+/// IKE_AUTH, the one that began by its response, and each has its partner at the other.
 ///
 /// So it is for whatever values of whatever type. What the callers mean is fixed, hides nothing, and keeps
 /// the laws of the traits. Either check accepts whatever proof there is: that none is forged lies in what

@@ -9,15 +9,26 @@
 //!   packet is accepted or sealed for it, nor by a Child SA that was ever of it.
 //! - [`laws::children_lie_inside_the_policy`]: of each SA pair and of each Child SA that is waited for, the
 //!   selectors lie inside an entry that protects.
-//! - [`laws::a_stranger_is_met_by_a_worked_gateway`], [`laws::an_association_is_closed_by_its_peer`],
-//!   [`laws::a_stranger_is_left_out_of_a_worked_run`]: a worked gateway that holds an IKE SA stays as it was
-//!   where a stranger asks to delete that, and closes it where the peer does, with the stranger or without.
+//! - [`laws::a_stranger_is_met_from_new_gateways_on`],
+//!   [`laws::an_association_is_closed_by_its_peer_from_new_gateways_on`],
+//!   [`laws::a_stranger_is_left_out_from_new_gateways_on`]: of two new gateways that set up an IKE SA with a
+//!   Child SA, one stays as it was where a stranger asks to delete that IKE SA, and closes it where the peer
+//!   does, with the stranger or without. The SA pair goes with it.
 //! - [`laws::an_established_initiator_has_a_partner`]: who is established as initiator agrees with the other end
-//!   on what both sent and on their keys, where no proof is forged and no nonce is drawn twice. A worked run
-//!   of two new gateways [meets these premises](laws::the_premises_of_a_partner_are_met).
+//!   on what both sent and on their keys, where no proof is forged and no nonce is drawn twice.
+//! - [`laws::an_established_responder_has_a_partner`]: who is established as responder was asked by the other end
+//!   under the same keys, where no proof is forged and no two records of keys prove alike.
+//! - [`laws::a_partner_is_the_only_one`]: neither has a second one. A worked run of two new gateways
+//!   [meets these premises](laws::the_premises_of_a_partner_are_met).
 //!
 //! What the first four say of a list `gateway::run` promises, and their lemmas stand in [`gateway`], as those
 //! on strangers do.
+//!
+//! # How it is proved
+//!
+//! The run with the stranger goes on where that of [`laws_two_ends`] ends. `WorkedDeletionStages` has its
+//! worlds, and `WorkedDeletionLemmas` A's request and what it does at B. `WorkedStrangerLemmas` says what the
+//! stranger's datagram is, and `WorkedClosingLemmas` shows the run, and what is asked of it.
 #![tactic(auto)]
 
 pub mod laws;

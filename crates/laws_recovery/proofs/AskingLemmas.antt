@@ -46,7 +46,7 @@ use Rattle.gateway.specs.Histories.{IsPassage, Passage}
 use Rattle.gateway.specs.Inputs.{Input}
 use Rattle.gateway.specs.Inputs as input
 use Rattle.gateway.specs.Outputs as output
-use Rattle.gateway.specs.Outputs.{view_of_ike, OutputView}
+use Rattle.gateway.specs.Outputs.{view_of_ike}
 use Rattle.gateway.specs.Requests.{for_ike}
 use Rattle.gateway.specs.States.{association_in}
 use Rattle.gateway.specs.Steps.{DoesInput, StepsIke}

@@ -31,7 +31,7 @@ use Rattle.gateway.specs.Histories.{IsPassage, Passage}
 use Rattle.gateway.specs.Inputs.{Input}
 use Rattle.gateway.specs.Inputs as input
 use Rattle.gateway.specs.Outputs as output
-use Rattle.gateway.specs.Outputs.{view_of_ike, wants_memory, OutputView}
+use Rattle.gateway.specs.Outputs.{view_of_ike, wants_memory}
 use Rattle.gateway.specs.Steps.{DoesInput, StepsIke}
 use Rattle.gateway.specs.declared.fault.Reason.TheVariants as reason
 use Rattle.laws_recovery.specs.Beginning.{BeginsAnew, IsRefused, MayBegin}

@@ -10,6 +10,3 @@ mod MatchingLemmas
 mod RemovingLemmas
 mod WorldLemmas
 mod WorldCopyLemmas
-mod WorkedRecoveryLemmas
-mod WorkedExchangeLemmas
-mod WorkedCopyLemmas

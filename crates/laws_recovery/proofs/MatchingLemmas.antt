@@ -41,7 +41,7 @@ use Rattle.gateway.specs.Histories.{IsPassage, Passage}
 use Rattle.gateway.specs.Inputs.{Input}
 use Rattle.gateway.specs.Inputs as input
 use Rattle.gateway.specs.Outputs as output
-use Rattle.gateway.specs.Outputs.{view_of_ike, wants_memory, OutputView}
+use Rattle.gateway.specs.Outputs.{view_of_ike, wants_memory}
 use Rattle.gateway.specs.Requests.{for_ike, AnswersBy, IsDatagram}
 use Rattle.gateway.specs.States.{association_in}
 use Rattle.gateway.specs.Steps.{DoesInput, StepsIke}

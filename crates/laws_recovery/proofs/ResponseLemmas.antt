@@ -61,7 +61,7 @@ use Rattle.ike.specs.declared.fault.IkeFault.{IkeFault}
 use Rattle.ike.specs.declared.fault.IkeFault.TheVariants as fault
 use Rattle.ike.specs.declared.output.Stepped.{Stepped}
 use Rattle.gateway.specs.Outputs as output
-use Rattle.gateway.specs.Outputs.{view_of_ike, OutputView}
+use Rattle.gateway.specs.Outputs.{view_of_ike}
 use Rattle.laws_recovery.proofs.WaitingLemmas.{same_one}
 
 -- ---- laws of messages

@@ -32,7 +32,7 @@ use Rattle.ike.specs.Steps as ike
 use Rattle.gateway.specs.Histories.{IsPassage, Passage}
 use Rattle.gateway.specs.Inputs.{Input}
 use Rattle.gateway.specs.Outputs as output
-use Rattle.gateway.specs.Outputs.{view_of_ike, wants_memory, OutputView}
+use Rattle.gateway.specs.Outputs.{view_of_ike, wants_memory}
 use Rattle.gateway.specs.Steps.{DoesInput, StepsIke}
 use Rattle.gateway.specs.Worlds.{requests_in}
 use Rattle.laws_recovery.specs.Waiting.{sent_again, GoesOutAgain, IsGivenUp, IsTold, WaitsAfter, WaitsBefore}

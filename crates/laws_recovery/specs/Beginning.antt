@@ -17,7 +17,6 @@ use Rattle.effects.specs.Taking.{Meaning}
 use Rattle.ike.specs.Machines.{own_spi, SERIAL_END}
 use Rattle.gateway.specs.Histories.{Passage}
 use Rattle.gateway.specs.Outputs as output
-use Rattle.gateway.specs.Outputs.{OutputView}
 use Rattle.gateway.specs.States.{association_in, State}
 use Rattle.gateway.specs.Strangers.{IsAsItWas}
 use Rattle.gateway.specs.declared.fault.Reason.{Reason}

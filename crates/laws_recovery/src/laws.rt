@@ -11,12 +11,9 @@ ghost use Rattle.association.specs.Phases.{IsEstablished};
 ghost use Rattle.association.specs.Purposes.{exchange_of};
 ghost use Rattle.association.specs.declared.phase.Association.{Association};
 ghost use Rattle.association.specs.declared.phase.Request.{Request};
-ghost use Rattle.setup.specs.Configs.{IsConfig};
-ghost use Rattle.setup.specs.declared.config.Config.{Config};
 ghost use Rattle.moments.specs.Due.{CLOSED_TIME};
 ghost use Rattle.effects.specs.Taking.{meaning_of, Meaning};
 ghost use Rattle.ike.specs.Moments.{IsTimely, WaitsAt};
-ghost use Rattle.ike.specs.Moves.{HasSeal};
 ghost use Rattle.gateway.specs.Histories.{IsPassage, IsTrail, Passage};
 ghost use Rattle.gateway.specs.Inputs as input;
 ghost use Rattle.gateway.specs.Outputs as output;
@@ -31,16 +28,12 @@ ghost use Rattle.laws_recovery.specs.Copies.{AreEndsOfOne, ArrivesAt, IsMatched,
 ghost use Rattle.laws_recovery.specs.Removing.{ClosedAfter, ClosedBefore, IsRemoved};
 ghost use Rattle.laws_recovery.specs.Waiting.{Brings, GoesOutAgain, IsGivenUp, IsTold, WaitsAfter};
 ghost use Rattle.laws_recovery.specs.WorldCopies.{CopyArrives, ResponseArrives, WasTaken};
-ghost use Rattle.laws_recovery.specs.WorkedCopies.{IsWorkedLoss};
-ghost use Rattle.laws_recovery.specs.WorkedExchange.{IsWorkedExchange};
-ghost use Rattle.laws_recovery.specs.WorkedRecovery.{IsWorkedRecovery};
 ghost use Rattle.laws_recovery.specs.Waiting.{WaitsBefore, WaitsThroughout, sent_again, times_again};
 
 use effects::laws::messages_open;
-use gateway::laws::{the_premises_of_requests_are_met, the_premises_of_two_ends_are_met};
 use ike::laws::{
-    fresh_octets_open, no_spi_is_lost, repeats_are_answered, requests_are_remembered,
-    requests_take_effect, soundness_stays, what_is_due_comes_in_time,
+    fresh_octets_open, repeats_are_answered, requests_are_remembered, requests_take_effect,
+    what_is_due_comes_in_time,
 };
 use requests::laws::later_incoming_follow;
 use suite::{Agreement, Proof, Sealer};
@@ -223,36 +216,6 @@ pub fn a_lost_response_comes_again<C: Sealer + Agreement + Proof>(caller: &C)
     requests_take_effect();
     what_is_due_comes_in_time();
     what_is_spelled_has_no_fault();
-}
-
-/// The premises of what is promised here of waiting, of going out again and of removal can be met. They are
-/// by a history of a gateway in which a request goes out again five times and finds no answer. Its IKE SA is
-/// closed and is removed, and another IKE SA may begin.
-pub fn the_premises_of_recovery_are_met<C>()
-    ensures { (config : Config) (caller : C) → IsConfig config → IsWorkedRecovery config caller }
-{
-    no_spi_is_lost();
-    soundness_stays();
-    the_premises_of_two_ends_are_met::<C>();
-    what_is_due_comes_in_time();
-}
-
-/// And those of what is promised of a request or a response that is lost: by the steps of two ends. One
-/// asks whether the other is there, and the request goes out again twice. The other processes the first copy
-/// that arrives, and answers the second by its first response. That is matched (`steps`). So it is in a
-/// world of both (`world`).
-pub fn the_premises_of_copies_are_met<C>()
-    ensures steps { (config : Config) (caller : C) (from : Octets) (fresh : Fresh)
-        → IsConfig config → HasSeal fresh
-        → IsWorkedExchange config caller from fresh }
-    ensures world { (config : Config) (caller : C) (from : Octets) (fresh : Fresh)
-        → IsConfig config → HasSeal fresh
-        → IsWorkedLoss config caller from fresh }
-{
-    no_spi_is_lost();
-    soundness_stays();
-    the_premises_of_requests_are_met::<C>();
-    what_is_due_comes_in_time();
 }
 
 /// What is lost between two ends comes through with a later copy. Over every history of a world, let a

@@ -13,8 +13,8 @@
 //! - [`laws::start_begins_anew`]: whatever was lost, `Start` leads to a new IKE SA.
 //! - [`laws::what_is_lost_comes_through`]: so it is over every history of a world, whatever else takes place;
 //!   by [`laws::each_end_of_a_world_has_its_history`] the other laws hold of each of its ends too.
-//! - [`laws::the_premises_of_recovery_are_met`], [`laws::the_premises_of_copies_are_met`]: worked histories
-//!   meet the premises.
+//!
+//! That the premises can be met, from two new gateways on, is said in `laws_worked`.
 //!
 //! # How it is proved
 //!
@@ -27,8 +27,7 @@
 //! `ResponseLemmas` finds of which exchange a response is and for which IKE SA, and `MatchingLemmas` that it
 //! is matched. `WorldCopyLemmas` takes these steps out of what took place in a world.
 //!
-//! `BeginningLemmas` takes the definition of `Start` apart. `WorkedRecoveryLemmas`, `WorkedExchangeLemmas`
-//! and `WorkedCopyLemmas` play the worked histories.
+//! `BeginningLemmas` takes the definition of `Start` apart.
 #![tactic(auto)]
 
 pub mod laws;

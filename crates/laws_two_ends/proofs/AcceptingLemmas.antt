@@ -52,8 +52,7 @@ use Rattle.gateway.specs.WorldPromises.{ComesUnder}
 use Rattle.gateway.specs.Worlds.{child_with, TakesEvent}
 use Rattle.gateway.specs.declared.world.stored.End.TheVariants.{A, B}
 use Rattle.gateway.proofs.PartyLemmas.{at_head, further_on, some_is}
-use Rattle.gateway.proofs.WorkedRequestLemmas.{no_reply, none_there, IsUpTo}
-use Rattle.gateway.proofs.WorkedWorldLemmas.{OneMessage}
+use Rattle.laws_two_ends.proofs.WorkedRequestLemmas.{no_reply, none_there, IsUpTo}
 use Rattle.esp.proofs.NumberLemmas.{contains-insert_nat}
 use Rattle.laws_two_ends.specs.WorkedRecords.{fresh_of, worked_record}
 use Rattle.laws_two_ends.specs.WorkedMessages.{proposal_of, spi_octets}
@@ -65,7 +64,7 @@ use Rattle.laws_two_ends.proofs.AuthLemmas.{asked, auth_octets, plain_octets, re
 use Rattle.laws_two_ends.proofs.InitLemmas.{answer_octets, request_octets}
 use Rattle.laws_two_ends.proofs.NewEndLemmas.{sealing}
 use Rattle.laws_two_ends.proofs.ResponseLemmas.{asked_spelled, request_read, response_octets, response_sealed}
-use Rattle.laws_two_ends.proofs.SoundnessLemmas.{sound_next, timely_alone, NoSpiIsLost, SoundnessStays}
+use Rattle.laws_two_ends.proofs.SoundnessLemmas.{sound_next, timely_alone, NoSpiIsLost, OneMessage, SoundnessStays}
 use Rattle.laws_two_ends.proofs.Stages.{accepts, agreed_terms, all_keyed, answering, answering_table, child_world, end_with, opened, pair_of, reserved_table, sent_answer, sent_auth, sent_request, sent_response, stored_of, telling, told_world, two_taken, world_of}
 
 -- ---- the requests that B took

@@ -25,7 +25,7 @@ use Rattle.gateway.specs.Worlds.{datagram_of, Stored}
 use Rattle.gateway.specs.declared.world.stored.Datagram.{Datagram}
 use Rattle.gateway.specs.declared.world.stored.End.{End}
 use Rattle.gateway.specs.declared.world.stored.Protection.TheVariants as mark
-use Rattle.gateway.proofs.WorkedWorldLemmas.{OneMessage}
+use Rattle.laws_two_ends.proofs.SoundnessLemmas.{OneMessage}
 
 -- a machine that holds this IKE SA alone
 abbrev pub alone : Machine → Association → Machine

@@ -33,8 +33,8 @@ use Rattle.effects.specs.declared.taking.Effect.TheVariants as effect
 use Rattle.ike.specs.Asking.{AsksThat}
 use Rattle.ike.specs.Machines.{Held}
 use Rattle.ike.specs.Outputs.{asking_step}
-use Rattle.gateway.specs.WorkedRequests.{worked_reply, worked_request}
-use Rattle.gateway.proofs.WorkedRequestLemmas.{answer_spelled, answered, asked, asked_spelled, first_two}
+use Rattle.laws_two_ends.specs.WorkedRequests.{worked_reply, worked_request}
+use Rattle.laws_two_ends.proofs.WorkedRequestLemmas.{answer_spelled, answered, asked, asked_spelled, first_two}
 use Rattle.laws_two_ends.specs.WorkedRecords.{worked_record}
 use Rattle.laws_two_ends.proofs.OctetLemmas.{octets_if}
 use Rattle.laws_two_ends.proofs.SealedLemmas.{answering_header_is, asking_header_is}

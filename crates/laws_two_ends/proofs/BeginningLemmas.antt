@@ -32,7 +32,7 @@ use Rattle.gateway.specs.WorldHistories.{IsWorldTrail}
 use Rattle.gateway.specs.Worlds.{TakesEvent}
 use Rattle.gateway.specs.declared.world.stored.End.{End}
 use Rattle.gateway.specs.declared.world.stored.End.TheVariants.{A, B}
-use Rattle.gateway.proofs.WorkedRequestLemmas.{none_asked}
+use Rattle.laws_two_ends.proofs.WorkedRequestLemmas.{none_asked}
 use Rattle.laws_two_ends.specs.WorkedRecords.{answering_fresh, beginning_fresh, fresh_of, worked_record}
 use Rattle.laws_two_ends.proofs.AuthLemmas.{auth_octets, plain_octets, request_chain, request_is}
 use Rattle.laws_two_ends.proofs.InitLemmas.{answer_octets, answer_read, answered_message, asked_message, request_octets, request_read}

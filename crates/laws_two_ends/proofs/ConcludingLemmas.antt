@@ -45,7 +45,6 @@ use Rattle.gateway.specs.Worlds.{child_with, TakesEvent}
 use Rattle.gateway.specs.declared.world.stored.Datagram.{Datagram}
 use Rattle.gateway.specs.declared.world.stored.End.TheVariants.{A, B}
 use Rattle.gateway.proofs.PartyLemmas.{at_head, further_on, some_is}
-use Rattle.gateway.proofs.WorkedWorldLemmas.{OneMessage}
 use Rattle.esp.proofs.NumberLemmas.{contains-insert_nat}
 use Rattle.laws_two_ends.specs.WorkedRecords.{fresh_of, worked_record}
 use Rattle.laws_two_ends.specs.WorkedMessages.{proposal_of}
@@ -57,7 +56,7 @@ use Rattle.laws_two_ends.proofs.AuthLemmas.{plain_octets, worked_child}
 use Rattle.laws_two_ends.proofs.InitLemmas.{answer_octets}
 use Rattle.laws_two_ends.proofs.NewEndLemmas.{sealing}
 use Rattle.laws_two_ends.proofs.ResponseLemmas.{answer_spelled, answered, response_octets, response_payloads, response_read}
-use Rattle.laws_two_ends.proofs.SoundnessLemmas.{sound_next, timely_alone, NoSpiIsLost, SoundnessStays}
+use Rattle.laws_two_ends.proofs.SoundnessLemmas.{sound_next, timely_alone, NoSpiIsLost, OneMessage, SoundnessStays}
 use Rattle.laws_two_ends.proofs.Stages.{accepted_world, accepts, agreed_terms, all_keyed, answered_child, answering, answering_table, asking, asking_table, child_world, concludes, end_with, pair_of, reserved_table, second_request, sent_answer, sent_auth, sent_request, sent_response, stored_of, telling, told_world, two_answered, world_of}
 
 -- ---- the Child SA

@@ -31,14 +31,13 @@ use Rattle.gateway.specs.WorldHistories.{Happening, IsWorldTrail}
 use Rattle.gateway.specs.WorldPackets.{HasOneSender, HasSentPacket, HoldsSomePairOf, IsJudgedAt, IsUnforgedTo}
 use Rattle.gateway.specs.WorldParties.{AreBothHeld, HasSent, IsNeverMadeTwice}
 use Rattle.gateway.specs.WorldPromises.{ComesUnder}
-use Rattle.gateway.specs.WorkedRequests.{worked_reply, worked_request}
+use Rattle.laws_two_ends.specs.WorkedRequests.{worked_reply, worked_request}
 use Rattle.gateway.specs.Worlds.{datagram_of, mark_by, other_end, Stored, TakesEvent, WorldState}
 use Rattle.gateway.specs.declared.world.stored.Child.{Child}
 use Rattle.gateway.specs.declared.world.stored.End.{End}
 use Rattle.gateway.specs.declared.world.stored.End.TheVariants.{A, B}
 use Rattle.gateway.proofs.PartyLemmas.{at_head, further_on, some_is}
-use Rattle.gateway.proofs.WorkedRequestLemmas.{answer_spelled, answered, asked, asked_spelled}
-use Rattle.gateway.proofs.WorkedWorldLemmas.{OneMessage, OneTime}
+use Rattle.laws_two_ends.proofs.WorkedRequestLemmas.{answer_spelled, answered, asked, asked_spelled}
 use Rattle.laws_two_ends.specs.WorkedRecords.{fresh_of, worked_record}
 use Rattle.laws_two_ends.proofs.ArrivalLemmas.{takes_alone, was_sent}
 use Rattle.laws_two_ends.proofs.CarriedLemmas.{addressed, it_is_received, it_is_sealed, judged, packet_was_sent}
@@ -50,7 +49,7 @@ use Rattle.laws_two_ends.specs.WorkedRuns.{all_protected, config_at, run_meaning
 use Rattle.laws_two_ends.proofs.AskingLemmas.{probe_asks, probe_opens, probe_takes, reply_opens, reply_takes}
 use Rattle.laws_two_ends.proofs.HeldLemmas.{asking_table_is_sound, later_table_is_sound, probing_in_time}
 use Rattle.laws_two_ends.proofs.NewEndLemmas.{sealing}
-use Rattle.laws_two_ends.proofs.SoundnessLemmas.{sound_next, timely_alone, NoSpiIsLost, SoundnessStays}
+use Rattle.laws_two_ends.proofs.SoundnessLemmas.{sound_next, timely_alone, NoSpiIsLost, OneMessage, OneTime, SoundnessStays}
 use Rattle.laws_two_ends.proofs.Stages.{accepts, all_keyed, all_steps, answered_child, answering, answering_table, answers, asked_child, asking, asking_table, begins, both_children, carried_octets, child_world, concludes, counted, counts, delivered_world, end_with, hands_up, is_there, last_world, later_table, one_taken, pair_of, probed, probed_world, probes, probing, probing_world, sealed_world, seals, sent_alive, sent_answer, sent_auth, sent_packet, sent_probe, sent_request, sent_response, stored_of, table_with, tells}
 
 -- the key of what A sends, and of what B sends

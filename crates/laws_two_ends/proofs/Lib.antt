@@ -1,3 +1,4 @@
+pub mod WorkedRequestLemmas
 pub mod OctetLemmas
 pub mod InitLemmas
 pub mod SealedLemmas
@@ -9,17 +10,10 @@ pub mod WorkedRecordLemmas
 mod WorldRecordLemmas
 mod GoingOutLemmas
 pub mod MessageLemmas
-mod ChildLemmas
 pub mod FlowLemmas
 pub mod TableLemmas
 pub mod CarriedLemmas
-mod SentLemmas
-mod WaitingLemmas
-mod LedgerLemmas
-mod ProbeLemmas
 pub mod StateLemmas
-mod WindowLemmas
-mod WorkedChildLemmas
 pub mod MapLemmas
 pub mod TakenLemmas
 pub mod InformationalLemmas

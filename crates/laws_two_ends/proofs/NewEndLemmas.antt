@@ -29,7 +29,7 @@ use Rattle.gateway.specs.Worlds.{new_world, HoldsNothing}
 use Rattle.gateway.specs.declared.world.stored.End.{End}
 use Rattle.gateway.specs.declared.world.stored.End.TheVariants.{A, B}
 use Rattle.gateway.proofs.PartyLemmas.{some_is}
-use Rattle.gateway.proofs.WorkedRequestLemmas.{none_there}
+use Rattle.laws_two_ends.proofs.WorkedRequestLemmas.{none_there}
 use Rattle.laws_two_ends.specs.WorkedRecords.{fresh_of, CanBeMeant, IsFresh}
 use Rattle.laws_two_ends.proofs.CallerLemmas.{can_be as can_be_meant}
 use Rattle.laws_two_ends.specs.WorkedRuns.{all_protected, config_at, config_by, new_end, new_ends, run_meaning, spi_at, IsTyped}

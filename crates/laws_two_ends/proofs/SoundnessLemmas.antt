@@ -1,6 +1,10 @@
 -- A gateway stays sound over a step of the machine of IKE, as the laws of that say.
-use Rattle.std.proofs.Common.{zero, suc, List, [], ◌∷◌, arith}
+use Rattle.std.proofs.Common.{◌≡◌, ◌↔◌, zero, suc, List, [], ◌∷◌, arith}
+use Rattle.base.specs.Octets.{Octets}
+use Rattle.wire.specs.Messages.{Spells}
+use Rattle.wire.specs.declared.message.Message.{Message}
 use Rattle.policy.specs.declared.entry.Entry.{Entry}
+use Rattle.suite.specs.declared.key_record.KeyRecord.{KeyRecord}
 use Rattle.sadb.specs.Database.{Database, IsSoundTable}
 use Rattle.association.specs.declared.phase.Association.{Association}
 use Rattle.setup.specs.declared.config.Config.{Config}
@@ -11,6 +15,7 @@ use Rattle.ike.specs.Moments.{IsTimely}
 use Rattle.ike.specs.Soundness.{AreReservationsHeld, IsSoundMachine}
 use Rattle.ike.specs.Steps.{InputView, Steps}
 use Rattle.ike.specs.declared.output.Stepped.{Stepped}
+use Rattle.lockstep.specs.Parties.{times}
 use Rattle.gateway.specs.States.{IsSoundState, State}
 
 -- what the law `ike::laws::soundness_stays` says
@@ -24,6 +29,14 @@ abbrev pub NoSpiIsLost : Type 0
 NoSpiIsLost =
     (meaning : Meaning) (entries : List Entry) (given : InputView) (old : Machine) (table : Database) (stepped : Stepped) (new : Machine) (new_table : Database)
     → IsSoundMachine old table → Steps meaning entries given old table stepped new new_table → AreReservationsHeld old.held table → AreReservationsHeld new.held new_table
+
+-- octets spell one message, as `wire` has it
+abbrev pub OneMessage : Type 0
+OneMessage = (m n : Message) (b : Octets) → Spells m b → Spells n b → m ≡ n
+
+-- how often a record stands in a list of itself, as `lockstep` has it
+abbrev pub OneTime : Type 0
+OneTime = (keys k : KeyRecord) → times keys (k ∷ []) ≡ 1 ↔ (k ≡ keys)
 
 pub sound_next : SoundnessStays → NoSpiIsLost → {C : Type 0} (meaning : Meaning) (given : InputView) (stepped : Stepped) (old new : State C) → IsSoundState old
     → Steps meaning old.entries given old.machine old.table stepped new.machine new.table → IsSoundTable new.table → IsTimely new.machine → IsSoundState new

@@ -29,7 +29,7 @@ use Rattle.ike.specs.Machines.{new_machine}
 use Rattle.gateway.specs.Inputs as input
 use Rattle.gateway.specs.Outputs.{Counted, Reply, Request as Requested, Sealed, Up}
 use Rattle.gateway.specs.States.{State}
-use Rattle.gateway.specs.WorkedRequests.{worked_reply, worked_request}
+use Rattle.laws_two_ends.specs.WorkedRequests.{worked_reply, worked_request}
 use Rattle.gateway.specs.WorldHistories.{Happening}
 use Rattle.gateway.specs.Worlds.{datagram_of, simplex_of, Stored, WorldState}
 use Rattle.gateway.specs.declared.world.stored.Child.{Child}

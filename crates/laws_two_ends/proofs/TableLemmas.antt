@@ -9,7 +9,7 @@ use Rattle.replay.specs.Window.{unused_window, IsSoundWindow}
 use Rattle.sadb.specs.Database.{pair_at, HasInbound, IsInbound, IsSoundTable, PairMap}
 use Rattle.sadb.specs.declared.pair.Pair.{Pair}
 use Rattle.laws_two_ends.specs.WorkedChildren.{lone_pair, table_with}
-use Rattle.laws_two_ends.proofs.MapLemmas.{only_there, put_again, put_there, IsOnly}
+use Rattle.laws_two_ends.proofs.MapLemmas.{only_there, put_there, IsOnly}
 
 pub none_taken : (n : ℕ) → set.contains (set.empty {R = nat_cmp}) n ≡ false
 none_taken n = set.contains-empty nat_cmp n
@@ -35,10 +35,6 @@ pub record HasLone (lone : Pair) (pairs : PairMap) : Type 0 where
 pub lone_in : (lone : Pair) → HasLone lone (lone_pair lone)
 lone_in lone = record { there = put_there no_pairs 1 1 lone refl; only = only_there no_pairs refl 1 lone }
 
--- it may be put in another's place
-pub lone_in_place : (first lone : Pair) → HasLone lone (map.insert (lone_pair first) 1 lone)
-lone_in_place first lone = subst (λ (m : PairMap). HasLone lone m) (sym (put_again no_pairs 1 first lone)) (lone_in lone)
-
 one_more_at_most : (b : Bool) (n : ℕ) → cond b n (n + 1) ≤ n + 1
 one_more_at_most true n = omega arith
 one_more_at_most false n = omega arith
@@ -49,9 +45,6 @@ few_pairs lone =
     let most = one_more_at_most (map.contains_key no_pairs 1) (map.len no_pairs) in
     let none = map.len-empty nat_cmp Pair in
     omega arith
-
-pub few_in_place : (first lone : Pair) → map.len (map.insert (lone_pair first) 1 lone) ≤ 1
-few_in_place first lone = subst (λ (m : PairMap). map.len m ≤ 1) (sym (put_again no_pairs 1 first lone)) (few_pairs lone)
 
 -- a pair with the serial 1, this inbound SPI and a sound window
 pub record IsFit (lone : Pair) (spi : ℕ) : Type 0 where

@@ -11,7 +11,7 @@ use Rattle.base.specs.Octets.{Octets}
 use Rattle.esp.proofs.NumberLemmas.{contains-insert_nat}
 use Rattle.requests.specs.Incoming.{IsFreshRequest, IsLeftBehind, PeerRequests, TakesRequest}
 use Rattle.requests.specs.Numbers.{NumberSet}
-use Rattle.gateway.proofs.WorkedRequestLemmas.{gap_of, lacks_if_not, no_reply, IsUpTo}
+use Rattle.laws_two_ends.proofs.WorkedRequestLemmas.{gap_of, lacks_if_not, no_reply, IsUpTo}
 use Rattle.laws_two_ends.proofs.MapLemmas.{put_beside, put_there}
 
 beside : (numbers : NumberSet) (end n : ℕ) → n ≢ end → set.contains (set.insert numbers end) n ≡ set.contains numbers n

@@ -7,8 +7,7 @@ use Rattle.gateway.specs.WorldHistories.{Happening, IsWorldTrail}
 use Rattle.gateway.specs.WorldParties.{HasSent}
 use Rattle.gateway.specs.WorldPromises.{ComesUnder, IsUnforgedByThen}
 use Rattle.gateway.specs.Worlds.{gateway_at, other_end, HoldsNothing, WorldState}
-use Rattle.gateway.specs.WorkedRequests.{worked_reply, worked_request}
-use Rattle.gateway.proofs.WorkedWorldLemmas.{OneMessage, OneTime}
+use Rattle.laws_two_ends.specs.WorkedRequests.{worked_reply, worked_request}
 use Rattle.gateway.specs.declared.world.stored.End.{End}
 use Rattle.gateway.specs.declared.world.stored.End.TheVariants.{A, B}
 use Rattle.laws_two_ends.specs.WorkedRecords.{worked_record}
@@ -24,7 +23,7 @@ use Rattle.laws_two_ends.proofs.KeyedLemmas.{came_as_initiator, came_as_responde
 use Rattle.laws_two_ends.proofs.LastLemmas.{all_at, alone, alone_back, answer_comes, answer_was_sent, answered_held, answered_there, asked_held, asked_there, both_are_held, both_are_held_back, last_steps_are, never_made_twice, none_comes_handing_up, none_comes_probing, none_comes_sealing, of_one, packet_comes, probe_comes, probe_was_sent, unforged_back, unforged_to}
 use Rattle.laws_two_ends.proofs.NewEndLemmas.{can_be, is_fresh, new_end_holds_nothing, new_ends_are_sound, policy_is_sound, set_up, starts, typed, NewWorldsAreSound}
 use Rattle.laws_two_ends.proofs.ResponseLemmas.{response_octets}
-use Rattle.laws_two_ends.proofs.SoundnessLemmas.{NoSpiIsLost, SoundnessStays}
+use Rattle.laws_two_ends.proofs.SoundnessLemmas.{NoSpiIsLost, OneMessage, OneTime, SoundnessStays}
 use Rattle.laws_two_ends.proofs.Stages.{accepts, all_steps, answered_child, answers, asked_child, begins, carried_octets, child_world, concludes, counted, counts, hands_up, is_there, last_world, probed, probes, probing, seals, tells, told_world, two_taken}
 
 -- what takes place after one list of steps goes on from where that ended

@@ -1,3 +1,4 @@
+pub mod WorkedRequests
 pub mod WorkedRecords
 pub mod WorldRecords
 pub mod GoingOut

@@ -2,15 +2,11 @@
 ghost use Rattle.std.specs.Prelude.{◌≡◌, ◌≤◌, ◌∷◌, ℕ, Contains, List, None, Some, slice_get};
 ghost use Rattle.base.specs.Octets.{Octets};
 ghost use Rattle.suite.specs.declared.key_record.KeyRecord.{KeyRecord};
-ghost use Rattle.suite.specs.declared.fresh.Fresh.{Fresh};
 ghost use Rattle.association.specs.declared.phase.Association.{Association};
 ghost use Rattle.sadb.specs.Database.{pair_at};
 ghost use Rattle.sadb.specs.declared.pair.Pair.{Pair};
-ghost use Rattle.setup.specs.Configs.{IsConfig};
-ghost use Rattle.setup.specs.declared.config.Config.{Config};
 ghost use Rattle.effects.specs.Taking.{meaning_of, Meaning};
 ghost use Rattle.lockstep.specs.Promises.{lacking_below};
-ghost use Rattle.ike.specs.Moves.{HasSeal};
 ghost use Rattle.gateway.specs.BothEnds.{IsWhollySound};
 ghost use Rattle.gateway.specs.Inputs.{Event};
 ghost use Rattle.gateway.specs.Outputs.{OutputView, Sealed};
@@ -26,7 +22,6 @@ ghost use Rattle.ike.specs.Records.{Introduction};
 ghost use Rattle.laws_two_ends.specs.WorkedRecords.{IsWorkedRecord};
 ghost use Rattle.laws_two_ends.specs.WorldRecords.{CameToKeysAsInitiator, CameToKeysAsResponder};
 ghost use Rattle.laws_two_ends.specs.WorkedExchanges.{IsWorkedExchange};
-ghost use Rattle.laws_two_ends.specs.WorkedChildren.{IsWorkedLink};
 ghost use Rattle.laws_two_ends.specs.WorkedRuns.{IsRunFromNewGateways};
 
 use gateway::laws::{
@@ -95,20 +90,6 @@ pub fn what_goes_out_is_stored<C>()
     ensures counted { (first : Datagram) (others : List Datagram)
         → (datagram_at (first ∷ others) 0 ≡ None) × (datagram_at (first ∷ others) 1 ≡ Some first.octets) }
 {}
-
-/// The premises of what is promised of the requests, windows, Child SAs and packets of both ends are met by
-/// a world in which each end made its pair of one additional Child SA, and the end which asked for it has
-/// sealed a packet by it and sent a probe: the packet comes to the end that answered, and is delivered; the
-/// probe comes there too, is processed and is answered, and the response is matched. So it is whatever the
-/// configuration, the caller's value and the peer's address; the caller's cipher hides nothing, and all
-/// laws of its traits hold.
-pub fn the_premises_of_both_ends_are_met<C>()
-    ensures { (config : Config) (caller : C) (from : Octets) (fresh : Fresh) → IsConfig config → HasSeal fresh
-        → IsWorkedLink config caller from fresh }
-{
-    octets_spell_one_message();
-    what_was_sent_under_keys_is_told();
-}
 
 /// The premises of what is promised of both ends of a world are met, all at once, by a run of one that
 /// begins with two new gateways: an IKE SA is set up by IKE_SA_INIT and IKE_AUTH, with its first Child SA

@@ -9,10 +9,8 @@
 //! [`laws::no_more_waits_than_the_other_end_takes`] joins two of these, and
 //! [`laws::what_goes_out_is_stored`] says what their worlds are judged by.
 //!
-//! Two worked worlds of two gateways meet the premises of what is promised of both ends:
-//! [`laws::the_premises_are_met_from_new_gateways_on`] has one that begins with new gateways, and
-//! [`laws::the_premises_of_both_ends_are_met`] one that begins in the middle, where the IKE SA and the
-//! Child SA are there.
+//! The premises of what is promised of both ends are met by a run of two new gateways
+//! ([`laws::the_premises_are_met_from_new_gateways_on`]).
 #![tactic(auto)]
 
 pub mod laws;

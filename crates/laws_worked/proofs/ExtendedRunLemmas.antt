@@ -21,7 +21,7 @@ use Rattle.gateway.specs.Worlds.{child_with, datagram_of, gateway_at, mark_by, H
 use Rattle.gateway.specs.declared.world.stored.End.{End}
 use Rattle.gateway.specs.declared.world.stored.End.TheVariants.{A, B}
 use Rattle.gateway.proofs.PartyLemmas.{at_head, further_on}
-use Rattle.gateway.proofs.WorkedRequestLemmas.{none_there}
+use Rattle.laws_two_ends.proofs.WorkedRequestLemmas.{none_there}
 use Rattle.laws_two_ends.specs.WorkedRecords.{fresh_of, worked_record}
 use Rattle.laws_two_ends.specs.WorkedChildren.{lone_pair}
 use Rattle.laws_two_ends.specs.WorkedRuns.{run_meaning, spi_at, IsTyped}

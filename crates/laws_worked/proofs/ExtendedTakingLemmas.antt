@@ -57,7 +57,7 @@ use Rattle.ike.specs.declared.output.Stepped.{Stepped}
 use Rattle.gateway.specs.declared.world.stored.End.{End}
 use Rattle.gateway.specs.declared.world.stored.End.TheVariants.{A, B}
 use Rattle.gateway.proofs.PartyLemmas.{some_is}
-use Rattle.gateway.proofs.WorkedRequestLemmas.{no_reply, none_there, IsUpTo}
+use Rattle.laws_two_ends.proofs.WorkedRequestLemmas.{no_reply, none_there, IsUpTo}
 use Rattle.esp.proofs.NumberLemmas.{contains-insert_nat}
 use Rattle.laws_two_ends.specs.WorkedRecords.{answering_fresh, beginning_fresh, fresh_of, worked_asker, worked_record}
 use Rattle.laws_two_ends.specs.WorkedRuns.{all_protected, run_meaning, spi_at}

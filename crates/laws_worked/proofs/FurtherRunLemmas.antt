@@ -6,15 +6,15 @@ use Rattle.base.specs.Octets.{Octets}
 use Rattle.replay.specs.Window.{unused_window}
 use Rattle.exchange.specs.declared.headers.Role.TheVariants.{Initiator, Responder}
 use Rattle.gateway.specs.Origin.{IsUnforgedUpTo}
-use Rattle.gateway.specs.WorkedRequests.{worked_request}
+use Rattle.laws_two_ends.specs.WorkedRequests.{worked_request}
 use Rattle.gateway.specs.WorldHistories.{Happening}
 use Rattle.gateway.specs.WorldParties.{AreBothHeld, HasSent, IsNeverMadeTwice}
 use Rattle.gateway.specs.WorldPromises.{ComesUnder, IsUnforgedByThen}
 use Rattle.gateway.specs.Worlds.{other_end}
 use Rattle.gateway.specs.declared.world.stored.Datagram.{Datagram}
 use Rattle.gateway.specs.declared.world.stored.End.TheVariants.{A, B}
-use Rattle.gateway.proofs.WorkedRequestLemmas.{asked as first_asked, asked_spelled as first_asked_spelled}
-use Rattle.gateway.proofs.WorkedWorldLemmas.{OneMessage, OneTime}
+use Rattle.laws_two_ends.proofs.WorkedRequestLemmas.{asked as first_asked, asked_spelled as first_asked_spelled}
+use Rattle.laws_two_ends.proofs.SoundnessLemmas.{OneMessage, OneTime}
 use Rattle.laws_two_ends.specs.WorkedMessages.{alive_octets, probe_octets}
 use Rattle.laws_two_ends.specs.WorkedRecords.{worked_record}
 use Rattle.laws_two_ends.specs.WorkedRuns.{run_meaning}

@@ -42,7 +42,7 @@ use Rattle.ike.specs.Asking.{AsksFurther}
 use Rattle.ike.specs.Machines.{new_machine, setup_at}
 use Rattle.ike.specs.Outputs.{asking_step}
 use Rattle.gateway.proofs.PartyLemmas.{some_is}
-use Rattle.gateway.proofs.WorkedRequestLemmas.{first_three, IsUpTo}
+use Rattle.laws_two_ends.proofs.WorkedRequestLemmas.{first_three, IsUpTo}
 use Rattle.gateway.specs.declared.world.stored.End.TheVariants.{B}
 use Rattle.laws_two_ends.specs.WorkedMessages.{alive_octets}
 use Rattle.laws_two_ends.specs.WorkedRecords.{fresh_of, worked_record}

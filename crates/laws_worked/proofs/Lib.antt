@@ -6,6 +6,10 @@ mod RetransmissionLemmas
 mod RecoveryStages
 mod RecoveryMessageLemmas
 mod RecoveryLemmas
+mod GivenUpStages
+mod GivenUpLemmas
+mod LostResponseStages
+mod LostResponseLemmas
 mod TwoPairLemmas
 mod FurtherMessageLemmas
 mod FurtherStages

@@ -19,12 +19,12 @@ use Rattle.gateway.specs.Moments.{Brings}
 use Rattle.gateway.specs.Outputs.{Ticked as Told}
 use Rattle.gateway.specs.Requests.{TakesEffect}
 use Rattle.gateway.specs.States.{IsSoundState, State}
-use Rattle.gateway.specs.WorkedRequests.{worked_reply}
+use Rattle.laws_two_ends.specs.WorkedRequests.{worked_reply}
 use Rattle.gateway.specs.WorldHistories.{passage_at, IsWorldTrail}
 use Rattle.gateway.specs.Worlds.{TakesEvent}
 use Rattle.gateway.specs.declared.world.stored.End.TheVariants.{A, B}
 use Rattle.gateway.proofs.PartyLemmas.{some_is}
-use Rattle.gateway.proofs.WorkedRequestLemmas.{answer_spelled as first_answer_spelled}
+use Rattle.laws_two_ends.proofs.WorkedRequestLemmas.{answer_spelled as first_answer_spelled}
 use Rattle.laws_two_ends.specs.WorkedMessages.{alive_octets, probe_octets}
 use Rattle.laws_two_ends.specs.WorkedRecords.{fresh_of}
 use Rattle.laws_two_ends.specs.WorkedRuns.{all_protected, config_at, new_ends, run_meaning}
@@ -107,13 +107,13 @@ module _ {C : Type 0} (a b : C) where
         (probing_world a b response_octets).a (answered_again a b).a (sound_probing a b response_octets laws.stays laws.lost child) refl
         (takes_alone (new_machine (config_at A)) all_protected (replicate 4 2) (fresh_of 8) first_answer_spelled refl refl (reply_takes _ _))
 
-    sound_asked : IsSoundState (asked_world a b).a
+    pub sound_asked : IsSoundState (asked_world a b).a
     sound_asked = stays_sound laws (ike.Order (orders.Probe 1) (fresh_of 10)) asks_step (answered_again a b).a (asked_world a b).a sound_first refl asks_so
 
-    sound_ticked : IsSoundState (ticked_world a b).a
+    pub sound_ticked : IsSoundState (ticked_world a b).a
     sound_ticked = stays_sound laws (ike.Tick 1000) ticks_step (asked_world a b).a (ticked_world a b).a sound_asked refl ticks_so
 
-    asks_it : TakesEvent (λ _. run_meaning) (asks_again a b).event (asks_again a b).before (asks_again a b).said (asks_again a b).after
+    pub asks_it : TakesEvent (λ _. run_meaning) (asks_again a b).event (asks_again a b).before (asks_again a b).said (asks_again a b).after
     asks_it = record {
       sound = sound_first;
       fresh = sealing 10 (omega arith);
@@ -123,7 +123,7 @@ module _ {C : Type 0} (a b : C) where
       content = refl;
     }
 
-    ticks_it : TakesEvent (λ _. run_meaning) (goes_again a b).event (goes_again a b).before (goes_again a b).said (goes_again a b).after
+    pub ticks_it : TakesEvent (λ _. run_meaning) (goes_again a b).event (goes_again a b).before (goes_again a b).said (goes_again a b).after
     ticks_it = record {
       sound = sound_asked;
       fresh = tt;
@@ -133,7 +133,7 @@ module _ {C : Type 0} (a b : C) where
       content = refl;
     }
 
-    replies_it : TakesEvent (λ _. run_meaning) (replies a b).event (replies a b).before (replies a b).said (replies a b).after
+    pub replies_it : TakesEvent (λ _. run_meaning) (replies a b).event (replies a b).before (replies a b).said (replies a b).after
     replies_it = record {
       sound = last_other_is_sound a b laws.stays laws.lost;
       fresh = sealing 11 (omega arith);
@@ -188,7 +188,7 @@ module _ {C : Type 0} (a b : C) where
 
     -- ---- what waits, and what is processed
 
-    not_yet : (request : Request) → ¬ WaitsAt (asks_again a b).before.a.machine.held 1 3 request
+    pub not_yet : (request : Request) → ¬ WaitsAt (asks_again a b).before.a.machine.held 1 3 request
     not_yet request waits =
         none_waits request (ap (λ (x : Association). numbers.get x.outgoing.outstanding 3) (some_is counted waits.association waits.there) ∙ waits.waits)
 
@@ -210,7 +210,7 @@ module _ {C : Type 0} (a b : C) where
           moment = refl;
         }
 
-    takes_effect : TakesEffect 1 3 (passage_at B (replies a b))
+    pub takes_effect : TakesEffect 1 3 (passage_at B (replies a b))
     takes_effect = record {
       old = probed;
       new = answered_twice;

@@ -43,8 +43,8 @@ use Rattle.effects.specs.declared.taking.Effect.TheVariants as effect
 use Rattle.ike.specs.Asking.{AsksThat}
 use Rattle.ike.specs.Machines.{Held}
 use Rattle.ike.specs.Outputs.{asking_step}
-use Rattle.gateway.specs.WorkedRequests.{worked_reply}
-use Rattle.gateway.proofs.WorkedRequestLemmas.{first_three}
+use Rattle.laws_two_ends.specs.WorkedRequests.{worked_reply}
+use Rattle.laws_two_ends.proofs.WorkedRequestLemmas.{first_three}
 use Rattle.laws_two_ends.specs.WorkedMessages.{alive_octets, probe_octets}
 use Rattle.laws_two_ends.specs.WorkedRecords.{worked_record}
 use Rattle.laws_two_ends.specs.WorkedRuns.{run_meaning}
@@ -180,13 +180,13 @@ no_entries_by (e ∷ es) none = absurd (omega (arith, none))
 no_entries : numbers.entries none_out ≡ []
 no_entries = no_entries_by (numbers.entries none_out) (sym (numbers.len-entries none_out) ∙ numbers.len-empty nat_cmp Request)
 
-one_entry : (request : Request) → numbers.entries (waiting_by request).outgoing.outstanding ≡ (3, request) ∷ []
+pub one_entry : (request : Request) → numbers.entries (waiting_by request).outgoing.outstanding ≡ (3, request) ∷ []
 one_entry request =
     ap (λ (m : numbers.FinMap nat_cmp Request). numbers.entries (numbers.insert m 3 request)) counted_waits_for_none
     ∙ numbers.entries-insert nat_cmp_total none_out 3 request
     ∙ ap (entries.put nat_cmp 3 request) no_entries
 
-none_at : (number : ℕ) → numbers.get counted.outgoing.outstanding number ≡ None
+pub none_at : (number : ℕ) → numbers.get counted.outgoing.outstanding number ≡ None
 none_at number = ap (λ (m : numbers.FinMap nat_cmp Request). numbers.get m number) counted_waits_for_none ∙ numbers.get-empty nat_cmp number
 
 abbrev before : Association

@@ -30,13 +30,13 @@ use Rattle.gateway.specs.Inputs as input
 use Rattle.gateway.specs.Outputs.{Dropped}
 use Rattle.gateway.specs.Packets.{table_passage, table_passages, JudgesOne, JudgesPacket}
 use Rattle.gateway.specs.States.{IsSoundState}
-use Rattle.gateway.specs.WorkedRequests.{worked_reply, worked_request}
+use Rattle.laws_two_ends.specs.WorkedRequests.{worked_reply, worked_request}
 use Rattle.gateway.specs.WorldHistories.{passage_at, passages_at, Happening, IsWorldTrail}
 use Rattle.gateway.specs.Worlds.{TakesEvent, WorldState}
 use Rattle.gateway.specs.declared.fault.Reason.TheVariants.{Packet}
 use Rattle.gateway.specs.declared.world.stored.End.TheVariants.{B}
 use Rattle.gateway.proofs.PartyLemmas.{some_is}
-use Rattle.gateway.proofs.WorkedRequestLemmas.{asked_spelled}
+use Rattle.laws_two_ends.proofs.WorkedRequestLemmas.{asked_spelled}
 use Rattle.laws_two_ends.specs.WorkedRecords.{fresh_of}
 use Rattle.laws_two_ends.specs.WorkedRuns.{all_protected, config_at, new_ends, run_meaning, Exchanged}
 use Rattle.laws_two_ends.proofs.ArrivalLemmas.{takes_alone}

@@ -15,11 +15,11 @@ use Rattle.ike.specs.Machines.{new_machine}
 use Rattle.ike.specs.Outputs.{stepped_of}
 use Rattle.gateway.specs.Outputs.{Repeat}
 use Rattle.gateway.specs.Requests.{for_ike, IsNew, TakesEffect}
-use Rattle.gateway.specs.WorkedRequests.{worked_reply, worked_request}
+use Rattle.laws_two_ends.specs.WorkedRequests.{worked_reply, worked_request}
 use Rattle.gateway.specs.WorldHistories.{passage_at, Happening, IsWorldTrail}
 use Rattle.gateway.specs.Worlds.{TakesEvent, WorldState}
 use Rattle.gateway.specs.declared.world.stored.End.TheVariants.{B}
-use Rattle.gateway.proofs.WorkedRequestLemmas.{asked, asked_spelled, first_three, first_two}
+use Rattle.laws_two_ends.proofs.WorkedRequestLemmas.{asked, asked_spelled, first_three, first_two}
 use Rattle.laws_two_ends.specs.WorkedRecords.{fresh_of}
 use Rattle.laws_two_ends.specs.WorkedRuns.{all_protected, comes_to, config_at, new_ends, run_meaning}
 use Rattle.laws_two_ends.proofs.ArrivalLemmas.{takes_alone}

@@ -12,11 +12,17 @@
 //!   Child SA, their pairs of it mirror each other, and it carries a packet.
 //! - [`laws::the_premises_of_extended_numbers_are_met_from_new_gateways_on`]: the same beginning where both
 //!   allow extended sequence numbers, up to the packet.
+//! - [`laws::the_premises_of_a_request_that_is_given_up_are_met_from_new_gateways_on`]: where the second run
+//!   ends, a second probe is never answered. It goes out six times, its IKE SA is closed, and is removed two
+//!   minutes later, as [`laws_recovery`] promises.
+//! - [`laws::the_premises_of_a_lost_response_are_met_from_new_gateways_on`]: where the second run ends, a
+//!   second probe is lost, a copy of it is answered, and the response is lost. The next copy gets the same
+//!   response, which is matched.
 //!
-//! In all five, the callers' cipher hides nothing, one secret serves all, and every proof of an identity is
-//! accepted. What else is asked of the callers, and of how both are set up, is met for the first four in the
-//! run of [`laws_two_ends`], and by the fifth for itself. The fourth says of all steps of the four that what
-//! is fresh there is of its type.
+//! In all seven, the callers' cipher hides nothing, one secret serves all, and every proof of an identity is
+//! accepted. What else is asked of the callers, and of how both are set up, is met in the run of
+//! [`laws_two_ends`] for all but the fifth, and by the fifth for itself. The fourth says of all steps of the
+//! first four that what is fresh there is of its type.
 //!
 //! # How it is proved
 //!
@@ -29,8 +35,9 @@
 //! `ReplayLemmas` has the packet that comes again, at a table, and `ReplayRunLemmas` the run in which it
 //! does. `JudgedNumberLemmas` tells as which numbers packets are accepted. `RetransmissionLemmas` has the
 //! request that comes again. `RecoveryStages` and `FurtherStages` have the worlds of the next two runs;
-//! `TwoPairLemmas` says what is found in a table of two pairs. `ExtendedStages` has those of the last run,
-//! which begins anew.
+//! `TwoPairLemmas` says what is found in a table of two pairs. `ExtendedStages` has those of the fifth run,
+//! which begins anew. `GivenUpStages` has those of the sixth, and `GivenUpLemmas` what each time brings there.
+//! `LostResponseStages` has those of the last, from where it leaves `RecoveryStages`.
 #![tactic(auto)]
 
 pub mod laws;

@@ -118,6 +118,8 @@ pub fn send_remembering<'a>(
     // Where there are places, the flow is remembered.
     ensures held { (flow : Flow) → IsFlowOf packet.now flow → 0 < length flows.new
         → HoldsTreatmentOf policy.now table.old.pairs flows.new flow }
+    // Places that were made stay.
+    ensures kept { 0 < length flows.old → 0 < length flows.new }
 {
     let laid = lay(alloc, table, flows, policy, packet)?;
     Ok(finish(table, laid))
@@ -143,6 +145,8 @@ pub fn lay<'a>(
     // Where there are places, the flow is remembered.
     ensures held { (flow : Flow) → IsFlowOf packet.now flow → 0 < length flows.new
         → HoldsTreatmentOf policy.now table.old.pairs flows.new flow }
+    // Places that were made stay.
+    ensures kept { 0 < length flows.old → 0 < length flows.new }
 {
     let mut octets = Vec::new(alloc);
     let laid = lay_behind(table, flows, policy, packet, &mut octets)?;
@@ -171,6 +175,8 @@ pub fn lay_behind<'a>(
     // Where there are places, the flow is remembered.
     ensures held { (flow : Flow) → IsFlowOf packet.now flow → 0 < length flows.new
         → HoldsTreatmentOf policy.now table.old.pairs flows.new flow }
+    // Places that were made stay.
+    ensures kept { 0 < length flows.old → 0 < length flows.new }
 {
     answers_stay_right();
     no_pair_comes();

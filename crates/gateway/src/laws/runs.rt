@@ -1,13 +1,10 @@
-//! What is promised of runs, over however many inputs and calls, and that what they ask for is met.
-ghost use Rattle.gateway.specs.LawsOfRuns.{CallsInARowAreOneRun, CallsInARowKeepTheirPromises, EveryRunKeepsItsPromises, HistoriesInARowAreOneHistory, RunsInARowAreOneRun, TheEstablishedOfNewGatewaysProvedThemselves, ThePremisesOfPacketsAreMet, ThePremisesOfRequestsAreMet};
+//! What is promised of runs, over however many inputs and calls.
+ghost use Rattle.gateway.specs.LawsOfRuns.{CallsInARowAreOneRun, CallsInARowKeepTheirPromises, EveryRunKeepsItsPromises, HistoriesInARowAreOneHistory, RunsInARowAreOneRun, TheEstablishedOfNewGatewaysProvedThemselves};
 ghost use Rattle.gateway.specs.Staying.{WhatEveryGatewayHasStays};
 
 use crate::laws::refusals_change_nothing;
 use association::laws::receptions_say_why;
-use deliveries::laws::{
-    every_list_of_packets_is_judged, numbers_are_determined, other_changes_leave_windows,
-    premises_are_met,
-};
+use deliveries::laws::{every_list_of_packets_is_judged, other_changes_leave_windows};
 use ike::laws::one_association_is_changed;
 use moments::laws::{pairs_go_with_their_associations, some_are_held_on, what_is_held_was_held};
 use requests::laws::later_incoming_follow;
@@ -99,22 +96,3 @@ pub fn runs_in_a_row_are_one_run<C>()
 {
     every_run_keeps_its_promises::<C>();
 }
-
-/// Non-vacuity: the assumption on ESP packets can be met. It holds of steps of a gateway in a row at which
-/// one packet comes twice, with another input between, and no ICV is forged. The configuration, the
-/// provider and the numbers taken before may be any.
-pub fn the_premises_of_packets_are_met<C>()
-    ensures { ThePremisesOfPacketsAreMet C }
-{
-    ike::laws::what_is_due_comes_in_time();
-    numbers_are_determined();
-    premises_are_met();
-}
-
-/// Non-vacuity: the assumptions on requests and on retransmissions can be met. They hold of two steps in a
-/// row. A datagram opens as a new request of an IKE SA, is processed and is answered, and comes again while
-/// the response is kept. Configuration, provider's value, source address and fresh octets may be any. The
-/// provider's cipher hides nothing, and all laws of its traits hold.
-pub fn the_premises_of_requests_are_met<C>()
-    ensures { ThePremisesOfRequestsAreMet C }
-{}

@@ -21,8 +21,9 @@ use effects::laws::associations_stay_themselves;
 use further::laws::further_children_mirror;
 use ike::laws::{
     both_ends_make_one_record, each_association_is_sound, each_association_was_there_or_came,
-    first_requests_tell_what_is_held, keys_come_by_what_is_read, one_association_is_changed,
-    soundness_stays, steps_are_moves, traces_name_what_is_held, what_goes_out_under_keys_is_sealed,
+    first_messages_introduce_their_senders, first_requests_tell_what_is_held,
+    keys_come_by_what_is_read, one_association_is_changed, soundness_stays, steps_are_moves,
+    traces_name_what_is_held, what_goes_out_under_keys_is_sealed, what_is_sealed_opens_to_itself,
     what_is_told_was_taken, who_waits_keeps_its_offer,
 };
 use lockstep::laws::{each_party_stays_sound, what_was_sent_under_keys_is_told};
@@ -31,7 +32,7 @@ use suite::{Agreement, Proof, Sealer};
 use traffic::laws::{
     a_packet_takes_one_number, no_pair_comes, what_one_end_seals_the_other_hands_up,
 };
-use wire::laws::{octets_spell_one_message, plain_spellings_are_spellings};
+use wire::laws::octets_spell_one_message;
 
 /// A world of two new gateways satisfies the full invariant under every key record, whatever the cipher.
 pub fn new_worlds_are_wholly_sound<C>()
@@ -41,13 +42,15 @@ pub fn new_worlds_are_wholly_sound<C>()
 }
 
 /// Both ends hold one record of keys (RFC 7296, sections 1.2, 2.6 and 2.14). Over every history of a world of
-/// two gateways, take an IKE SA of one end and one of the other, each by its serial. The first sent a request
-/// of IKE_SA_INIT, of which the second was made; and what the second answered gave the first its keys. Then,
-/// where both are held after the history, they have one record of keys.
+/// two gateways, take an IKE SA of one end and one of the other, each by its serial. The first told its SPI,
+/// the value of its key exchange and its nonce in a request of IKE_SA_INIT, and the second was made of a
+/// request that tells the same. What the second told in its answer, the response told by which the first came
+/// to its keys. Then, where both are held after the history, they have one record of keys.
 ///
-/// It asks for these octets, and that secrets have their 32 octets, as their type says: neither that one record is known to be theirs, nor that the world is
-/// sound under it, nor that nothing was forged. Cookies, copies and whatever else came between change nothing.
-/// That both came to one record follows by the agreement's law.
+/// It asks for what these messages tell, and that secrets have their 32 octets, as their type says. It asks
+/// neither that one record is known to be theirs, nor that the world is sound under it, nor that nothing was
+/// forged: the messages may differ in everything else. Cookies, copies and whatever else came between change
+/// nothing. That both came to one record follows by the agreement's law.
 pub fn both_ends_hold_one_record<C: Sealer + Agreement + Proof>()
     ensures { BothEndsHoldOneRecord C (meaning_of C.Sealer C.Agreement C.Proof) }
 {
@@ -55,9 +58,9 @@ pub fn both_ends_hold_one_record<C: Sealer + Agreement + Proof>()
     both_ends_make_one_record::<C>();
     each_association_is_sound();
     each_association_was_there_or_came();
+    first_messages_introduce_their_senders();
     first_requests_tell_what_is_held();
     keys_come_by_what_is_read();
-    plain_spellings_are_spellings();
     soundness_stays();
     traces_name_what_is_held();
     who_waits_keeps_its_offer();
@@ -83,12 +86,12 @@ pub fn both_ends_keep_their_promises<C: Sealer + Agreement + Proof>()
     octets_spell_one_message();
     one_association_is_changed();
     other_changes_leave_windows();
-    plain_spellings_are_spellings();
     some_are_held_on();
     steps_are_moves();
     traces_name_what_is_held();
     traffic::laws::later_tables_follow();
     what_goes_out_under_keys_is_sealed();
+    what_is_sealed_opens_to_itself::<C>();
     what_one_end_seals_the_other_hands_up();
     windows_are_those_told::<C>();
 }
@@ -114,6 +117,7 @@ pub fn windows_are_those_told<C: Sealer + Agreement + Proof>()
     each_association_is_sound();
     each_party_stays_sound();
     what_goes_out_under_keys_is_sealed();
+    what_is_sealed_opens_to_itself::<C>();
     what_is_told_was_taken();
     what_was_sent_under_keys_is_told();
     effects::laws::associations_stay_themselves();
@@ -121,7 +125,6 @@ pub fn windows_are_those_told<C: Sealer + Agreement + Proof>()
     ike::laws::children_are_made_of_their_messages();
     ike::laws::keys_stay_whole();
     octets_spell_one_message();
-    plain_spellings_are_spellings();
     steps_are_moves();
     traces_name_what_is_held();
     windows_are_read_again();

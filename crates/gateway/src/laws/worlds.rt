@@ -1,12 +1,11 @@
 //! What holds of two gateways: what is stored of them, and their requests.
-ghost use Rattle.gateway.specs.LawsOfWorlds.{EachEndHasItsHistory, EachEndHasItsRun, EndsOfASoundWorldAgree, EveryTrailStaysSound, EveryWorldStaysSound, EveryWorldStaysSoundOverCalls, NewWorldsAreSound, ThePremisesOfTwoEndsAreMet, WhatIsNotMadeTwiceWasNot, WhatIsStoredStays, WhatIsUnforgedByThenIsUnforged, WhatWasSentStaysSent};
+ghost use Rattle.gateway.specs.LawsOfWorlds.{EachEndHasItsHistory, EachEndHasItsRun, EndsOfASoundWorldAgree, EveryTrailStaysSound, EveryWorldStaysSound, EveryWorldStaysSoundOverCalls, NewWorldsAreSound, WhatIsNotMadeTwiceWasNot, WhatIsStoredStays, WhatIsUnforgedByThenIsUnforged, WhatWasSentStaysSent};
 
 use ike::laws::{steps_are_moves, traces_name_what_is_held};
 use lockstep::laws::{
     each_party_stays_sound, parties_keep_in_step, parties_stay_sound,
     what_was_sent_under_keys_is_told,
 };
-use wire::laws::octets_spell_one_message;
 
 /// At each end a run of a world is a run of its gateway alone, over its own events in order, whatever
 /// happens at the other end. Its steps are those of the world at this end.
@@ -62,18 +61,5 @@ pub fn ends_of_a_sound_world_agree<C>()
 {
     each_party_stays_sound();
     parties_keep_in_step();
-    what_was_sent_under_keys_is_told();
-}
-
-/// Non-vacuity: the assumptions on both ends can be met. They hold of a world that is sound for a key
-/// record, with an IKE SA under it at each end, one as its initiator and one as its responder. A request
-/// reaches the responder, is processed and is answered, and the response is matched; both were sent before.
-/// Configuration, provider's value, what went before, source addresses and fresh octets may be any. The
-/// provider's cipher hides nothing, and all laws of its traits hold.
-pub fn the_premises_of_two_ends_are_met<C>()
-    ensures { ThePremisesOfTwoEndsAreMet C }
-{
-    each_party_stays_sound();
-    octets_spell_one_message();
     what_was_sent_under_keys_is_told();
 }

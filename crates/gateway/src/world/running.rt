@@ -38,10 +38,10 @@ use suite::{Agreement, Proof, Sealer};
 /// - where it counts a window of one, the requests that were processed are the first ones, none skipped, and
 ///   those answered are the same or all but the last (RFC 7296, sections 2.1 to 2.3).
 ///
-/// Both ends hold one record (RFC 7296, section 2.14). Take a request of IKE_SA_INIT, sent in this list, that
-/// made an IKE SA at the other end, and the response of that one, which gave the first its keys. Where both are
-/// held after the list, their keys are the same, whatever else came. The secrets have 32 octets, as their type
-/// says.
+/// Both ends hold one record (RFC 7296, section 2.14). Take an IKE SA of either end, each made or keyed in this
+/// list by a message of IKE_SA_INIT that tells the SPI, the key exchange's value and the nonce which the other's
+/// own message told. Where both are held after the list, their keys are the same, whatever else came. The
+/// secrets have 32 octets, as their type says.
 ///
 /// A world that is *wholly sound* also accounts for what each end announced of its window, for the children
 /// under the record, and for all pairs. A new world is, and it stays so under the same assumptions. Then:

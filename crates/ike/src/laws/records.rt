@@ -1,5 +1,6 @@
 //! How both ends of an IKE SA come to their keys.
-ghost use Rattle.ike.specs.LawsOfRecords.{KeysComeToTheInitiator, KeysComeToTheResponder};
+ghost use Rattle.ike.specs.LawsOfRecords.{FirstAnswersIntroduceTheirSenders, FirstRequestsIntroduceTheirSenders};
+ghost use Rattle.ike.specs.LawsOfRecords.{KeysComeToTheInitiator, KeysComeToTheResponder, OctetsIntroduceOneSender};
 ghost use Rattle.ike.specs.Records.{agreeing_by, ComesToKeysAsInitiator, ComesToKeysAsResponder, Introduction};
 ghost use Rattle.std.specs.Prelude.{◌≡◌, ℕ};
 ghost use Rattle.initial.specs.Reading.{Asker};
@@ -7,7 +8,7 @@ ghost use Rattle.suite.specs.declared.key_record.KeyRecord.{KeyRecord};
 ghost use Rattle.suite.specs.declared.sealer.Cipher.{Cipher};
 
 use suite::Agreement;
-use wire::laws::octets_spell_one_message;
+use wire::laws::{octets_spell_one_message, plain_spellings_are_spellings};
 
 /// Both ends make one record of keys (RFC 7296, section 2.14). One step gave an end its keys as initiator, and
 /// one gave an end its keys as responder. Each took the SPI, the value of the key exchange and the nonce that
@@ -29,4 +30,16 @@ pub fn keys_come_by_what_is_read()
     ensures responder { KeysComeToTheResponder }
 {
     octets_spell_one_message();
+}
+
+/// What an end sends in IKE_SA_INIT tells of its IKE SA what that holds of itself: the SPI, the value of the key
+/// exchange and the nonce (RFC 7296, section 1.2). So it is of a request, with a cookie or without, and of the
+/// response by which a half-open IKE SA is made. Octets tell it of one sender alone.
+pub fn first_messages_introduce_their_senders()
+    ensures request { FirstRequestsIntroduceTheirSenders }
+    ensures answer { FirstAnswersIntroduceTheirSenders }
+    ensures one { OctetsIntroduceOneSender }
+{
+    octets_spell_one_message();
+    plain_spellings_are_spellings();
 }

@@ -1,7 +1,10 @@
 //! What a step seals, and at which IKE SA it took a message.
+ghost use Rattle.ike.specs.Payloads.{OpensToItself};
 ghost use Rattle.ike.specs.LawsOfSealing.{EachAssociationHoldsWholeKeys, EachAssociationIsSound, KeysComeWithTheFirstRequest, WhatGoesOutUnderKeysIsSealed, WhatIsToldWasTaken};
 
 use auth::laws::windows_are_read_again;
+use suite::Sealer;
+use wire::laws::{octets_spell_one_message, plain_spellings_are_spellings};
 
 /// Whatever a step sends under keys, but for what a tick sends again, is a response that goes out again, or is
 /// sealed now: with the fresh octets of the step, under the keys of the IKE SA that the trace names. Its payloads tell no wider window than this
@@ -26,3 +29,12 @@ pub fn each_association_is_sound()
     ensures sound { EachAssociationIsSound }
     ensures whole { EachAssociationHoldsWholeKeys }
 {}
+
+/// What is sealed opens to what was sealed, and to nothing else, as a message of the end that sealed it (RFC
+/// 7296, section 3.14): by the law of [`Sealer`], that what is sealed with fresh octets opens again.
+pub fn what_is_sealed_opens_to_itself<S: Sealer>()
+    ensures { OpensToItself S.body_of S.plain_of }
+{
+    octets_spell_one_message();
+    plain_spellings_are_spellings();
+}

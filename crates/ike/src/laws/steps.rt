@@ -5,7 +5,8 @@ ghost use Rattle.ike.specs.LawsOfSteps.{FreshOctetsOpen, OneAssociationIsChanged
 use crate::laws::{
     answers_keep_to_their_offers, children_are_extended_where_allowed,
     children_are_made_of_their_messages, children_have_few_selectors,
-    no_association_without_a_cookie, the_established_proved_themselves, traces_name_what_is_held,
+    no_association_without_a_cookie, requests_take_effect, the_established_proved_themselves,
+    traces_name_what_is_held,
 };
 use effects::laws::{
     associations_stay_themselves, beginnings_are_determined, effects_are_determined, keys_stay,
@@ -95,14 +96,16 @@ pub fn fresh_octets_open<S: Sealer>(sealer: &S)
     what_is_sealed_opens(sealer);
 }
 
-/// What [`Ike::step`](crate::Ike::step) promises beside what its input does: the moves, who is established,
-/// what the trace names and what goes in clear, of what a Child SA is made and what an answer holds, that one
-/// IKE SA is changed but for a tick, and that no datagram makes a half-open one without a right cookie
-/// under load. Each is a law of its own.
+/// What [`Ike::step`](crate::Ike::step) promises beside what its input does: the moves, which requests of
+/// the peer come into effect, who is established, what the trace names and what goes in clear, of what a
+/// Child SA is made and what an answer holds, that one IKE SA is changed but for a tick, and that no datagram
+/// makes a half-open one without a right cookie under load. Each is a law of its own. Beside them no command
+/// sends a request under an IKE SA that waits for the answer to its own deletion.
 pub fn steps_keep_their_laws()
     ensures { StepsKeepTheirLaws }
 {
     steps_are_moves();
+    requests_take_effect();
     the_established_proved_themselves();
     traces_name_what_is_held();
     one_association_is_changed();

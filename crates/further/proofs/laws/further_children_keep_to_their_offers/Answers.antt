@@ -1,4 +1,4 @@
-use Rattle.further.proofs.OfferLemmas.{plain_extension_allowed, plain_offer_kept, plain_policy_obeyed, plain_proposal_taken, plain_request_kept}
+use Rattle.further.proofs.OfferLemmas.{plain_extension_allowed, plain_offer_kept, plain_offer_narrowed, plain_policy_obeyed, plain_proposal_taken, plain_request_kept}
 use Rattle.further.proofs.laws.further_children_keep_to_their_offers.Goals as goal
 
 pub returns-clause-offer : goal.returns-clause-offer
@@ -7,6 +7,10 @@ returns-clause-offer c = λ setup ike keys table deleting plain made.
 
 pub returns-clause-policy : goal.returns-clause-policy
 returns-clause-policy c = λ setup ike keys table deleting plain made. plain_policy_obeyed setup ike keys table deleting plain made c.responses_keep_to_their_offers.ensures.policy
+
+pub returns-clause-narrowed : goal.returns-clause-narrowed
+returns-clause-narrowed c = λ setup ike keys table deleting plain made.
+    plain_offer_narrowed setup ike keys table deleting plain made c.octets_spell_one_message.ensures.chain c.responses_keep_to_their_offers.ensures.narrowed
 
 pub returns-clause-extension : goal.returns-clause-extension
 returns-clause-extension c = λ setup ike keys table deleting plain made.

@@ -16,7 +16,9 @@ returns g c =
       };
       sound = c.soundness_stays.ensures;
       keys = c.traces_name_what_is_held.ensures.keys;
-      spells = c.plain_spellings_are_spellings.ensures.message;
+      request = c.first_messages_introduce_their_senders.ensures.request;
+      answer = c.first_messages_introduce_their_senders.ensures.answer;
+      one_sender = c.first_messages_introduce_their_senders.ensures.one;
       initiator = c.keys_come_by_what_is_read.ensures.initiator;
       responder = c.keys_come_by_what_is_read.ensures.responder;
       waits = c.who_waits_keeps_its_offer.ensures;

@@ -3,7 +3,7 @@ use Rattle.gateway.proofs.CarryLemmas.{both_ends_promises, CarryLaws}
 use Rattle.gateway.proofs.ChildLemmas.{ChildLaws}
 use Rattle.gateway.proofs.MirrorLemmas.{MirrorLaws}
 use Rattle.gateway.proofs.MoveLemmas.{TurnLaws}
-use Rattle.gateway.proofs.OpenLemmas.{OpenLaws}
+use Rattle.ike.specs.Payloads.{OpensToItself}
 use Rattle.gateway.proofs.PairLemmas.{PairLaws}
 use Rattle.gateway.proofs.laws.together.both_ends_keep_their_promises.Goals as goal
 
@@ -51,11 +51,6 @@ returns g c =
       none_sent = c.no_pair_comes.ensures.sent;
     } in
     let carry : CarryLaws = record { up = c.a_packet_takes_one_number.ensures.up; handed = c.what_one_end_seals_the_other_hands_up.ensures } in
-    let opens : OpenLaws body_of plain_of = record {
-      spells = c.plain_spellings_are_spellings.ensures.message;
-      one_message = c.octets_spell_one_message.ensures.message;
-      plain_chain = c.octets_spell_one_message.ensures.plain_chain;
-      again = g.met.C.Sealer.opens_again;
-    } in
+    let opens : OpensToItself body_of plain_of = c.what_is_sealed_opens_to_itself.ensures in
     λ happenings old new trail. both_ends_promises turns kin mirrors pairs carry _ body_of plain_of (record { body = λ caller. refl; plain = λ caller. refl }) opens happenings old new trail (c.every_world_stays_sound.ensures.trail _ happenings old new trail)
     (λ keys sound known unforged once. c.windows_are_those_told.ensures.stays keys happenings old new trail sound known unforged once) (λ keys known. c.windows_are_those_told.ensures.fit keys new known) (c.both_ends_hold_one_record.ensures happenings old new trail)

@@ -1,7 +1,7 @@
 use Rattle.std.proofs.Common.{refl}
 use Rattle.gateway.proofs.ChildLemmas.{ChildLaws}
 use Rattle.gateway.proofs.MoveLemmas.{TurnLaws}
-use Rattle.gateway.proofs.OpenLemmas.{OpenLaws}
+use Rattle.ike.specs.Payloads.{OpensToItself}
 use Rattle.gateway.proofs.SoundWorldLemmas.{PartyLaws}
 use Rattle.gateway.proofs.WindowWorldLemmas.{windows_fit, windows_stay, PeersLaws, SealingLaws}
 use Rattle.gateway.proofs.laws.together.windows_are_those_told.Goals as goal
@@ -48,10 +48,5 @@ returns-clause-stays g c =
 
 pub returns-clause-fit : goal.returns-clause-fit
 returns-clause-fit g c =
-    let opens : OpenLaws g.C.Sealer.body_of g.C.Sealer.plain_of = record {
-      spells = c.plain_spellings_are_spellings.ensures.message;
-      one_message = c.octets_spell_one_message.ensures.message;
-      plain_chain = c.octets_spell_one_message.ensures.plain_chain;
-      again = g.met.C.Sealer.opens_again;
-    } in
+    let opens : OpensToItself g.C.Sealer.body_of g.C.Sealer.plain_of = c.what_is_sealed_opens_to_itself.ensures in
     λ keys world known. windows_fit g.C.Sealer.body_of g.C.Sealer.plain_of opens keys world known

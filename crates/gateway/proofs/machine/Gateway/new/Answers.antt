@@ -1,4 +1,4 @@
-use Rattle.std.proofs.Common.{◌≡◌, true, ℕ, subst, sym}
+use Rattle.std.proofs.Common.{◌≡◌, false, true, ℕ, subst, sym}
 use Rattle.std.specs.FinSet as set
 use Rattle.std.specs.Ordering.{nat_cmp}
 use Rattle.sadb.specs.Database.{Database, IsReserved}
@@ -6,8 +6,10 @@ use Rattle.ike.specs.Machines.{Machine}
 use Rattle.ike.specs.Moments.{IsTimely}
 use Rattle.ike.specs.Soundness.{AreReservationsHeld}
 use Rattle.gateway.proofs.StayingLemmas.{begins_so}
-use Rattle.gateway.proofs.WorkedLemmas.{none_reserved}
 use Rattle.gateway.proofs.machine.Gateway.new.Goals as goal
+
+none_reserved : (spi : ℕ) → set.contains {R = nat_cmp} set.empty spi ≡ true → ⊥
+none_reserved spi is = let none : set.contains {R = nat_cmp} set.empty spi ≡ false = set.contains-empty nat_cmp spi in cc
 
 pub invariant_of-result : goal.invariant_of-result
 invariant_of-result g c =

@@ -5,6 +5,7 @@ pub returns : goal.returns
 returns c =
     let laws : Laws = record {
       moves = c.steps_are_moves.ensures;
+      in_effect = c.requests_take_effect.ensures.alone;
       established = c.the_established_proved_themselves.ensures;
       traced = c.traces_name_what_is_held.ensures.traced;
       clear = c.traces_name_what_is_held.ensures.clear;

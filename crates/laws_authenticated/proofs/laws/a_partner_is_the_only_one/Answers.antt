@@ -1,0 +1,73 @@
+use Rattle.std.proofs.Common.{refl}
+use Rattle.effects.specs.Taking.{asker_of, meaning_of}
+use Rattle.gateway.proofs.ExchangeLemmas.{RecordLaws}
+use Rattle.laws_authenticated.proofs.PartnerLemmas.{PartnerLaws}
+use Rattle.laws_authenticated.proofs.UniqueLemmas.{one_asker, one_partner}
+use Rattle.laws_authenticated.proofs.laws.a_partner_is_the_only_one.Goals as goal
+
+pub returns-clause-initiator : goal.returns-clause-initiator
+returns-clause-initiator g c =
+    let meant = meaning_of g.C.Sealer g.C.Agreement g.C.Proof in
+    let records : RecordLaws = record {
+      steps = record {
+        came = c.each_association_was_there_or_came.ensures.each;
+        rising = c.each_association_was_there_or_came.ensures.rising;
+        tells = c.first_requests_tell_what_is_held.ensures;
+        sound_at = c.each_association_is_sound.ensures.sound;
+        itself = c.associations_stay_themselves.ensures;
+      };
+      sound = c.soundness_stays.ensures;
+      keys = c.traces_name_what_is_held.ensures.keys;
+      request = c.first_messages_introduce_their_senders.ensures.request;
+      answer = c.first_messages_introduce_their_senders.ensures.answer;
+      one_sender = c.first_messages_introduce_their_senders.ensures.one;
+      initiator = c.keys_come_by_what_is_read.ensures.initiator;
+      responder = c.keys_come_by_what_is_read.ensures.responder;
+      waits = c.who_waits_keeps_its_offer.ensures;
+    } in
+    let laws : PartnerLaws = record {
+      records = records;
+      traced = c.traces_name_what_is_held.ensures.traced;
+      waits = c.children_are_made_of_their_messages.ensures.waits;
+      read = c.who_asks_has_read.ensures.read;
+      waited = c.who_asks_has_read.ensures.waited;
+      half = c.who_is_half_open_was_so.ensures;
+      proved = c.the_established_proved_themselves.ensures;
+      one_message = c.octets_spell_one_message.ensures.message;
+    } in
+    λ hs old new trail apart place other end serial another keys one two.
+    one_partner laws meant g.C.Agreement.public_value (λ caller. refl) hs old new trail (λ caller answerer. c.both_ends_make_one_record.ensures (asker_of (meant caller)) (meant answerer).cipher (meant answerer).group)
+    apart place other end serial another keys one two
+
+pub returns-clause-responder : goal.returns-clause-responder
+returns-clause-responder g c =
+    let meant = meaning_of g.C.Sealer g.C.Agreement g.C.Proof in
+    let records : RecordLaws = record {
+      steps = record {
+        came = c.each_association_was_there_or_came.ensures.each;
+        rising = c.each_association_was_there_or_came.ensures.rising;
+        tells = c.first_requests_tell_what_is_held.ensures;
+        sound_at = c.each_association_is_sound.ensures.sound;
+        itself = c.associations_stay_themselves.ensures;
+      };
+      sound = c.soundness_stays.ensures;
+      keys = c.traces_name_what_is_held.ensures.keys;
+      request = c.first_messages_introduce_their_senders.ensures.request;
+      answer = c.first_messages_introduce_their_senders.ensures.answer;
+      one_sender = c.first_messages_introduce_their_senders.ensures.one;
+      initiator = c.keys_come_by_what_is_read.ensures.initiator;
+      responder = c.keys_come_by_what_is_read.ensures.responder;
+      waits = c.who_waits_keeps_its_offer.ensures;
+    } in
+    let laws : PartnerLaws = record {
+      records = records;
+      traced = c.traces_name_what_is_held.ensures.traced;
+      waits = c.children_are_made_of_their_messages.ensures.waits;
+      read = c.who_asks_has_read.ensures.read;
+      waited = c.who_asks_has_read.ensures.waited;
+      half = c.who_is_half_open_was_so.ensures;
+      proved = c.the_established_proved_themselves.ensures;
+      one_message = c.octets_spell_one_message.ensures.message;
+    } in
+    λ hs old new trail begins once place other end opened another keys one two.
+    one_asker laws meant hs old new trail begins once place other end opened another keys one two

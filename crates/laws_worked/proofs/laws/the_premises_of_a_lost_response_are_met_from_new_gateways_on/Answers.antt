@@ -1,0 +1,8 @@
+use Rattle.laws_worked.proofs.LostResponseLemmas.{lost_response_is}
+use Rattle.laws_worked.proofs.laws.the_premises_of_a_lost_response_are_met_from_new_gateways_on.Goals as goal
+
+pub returns : goal.returns
+returns g c =
+    λ a b.
+    lost_response_is a b (record { stays = c.soundness_stays.ensures; lost = c.no_spi_is_lost.ensures.stepped; timely = c.what_is_due_comes_in_time.ensures.timely; comes = c.what_is_due_comes_in_time.ensures.comes })
+    c.each_end_of_a_world_has_its_history.ensures.step
