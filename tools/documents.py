@@ -24,9 +24,9 @@ WORD = re.compile(r"[A-Za-z_]\w*(?:::\w+)*")
 
 # What a page says, with its figure as the group, and where the tree has that figure: a file and a form whose group it is.
 FIGURES = [
-    (r"FILE has at most ([\d,]+) octets", "crates/gw_console/src/input.rt", r"FILE_LIMIT: usize = ([\d_]+)"),
-    (r"[Aa] payload has at most ([\d,]+) octets", "crates/esp/src/packet.rt", r"PAYLOAD_LIMIT: usize = ([\d_]+)"),
-    (r"multiple of 4 from 28 to ([\d,]+)", "crates/esp/src/packet.rt", r"PACKET_LIMIT: usize = ([\d_]+)"),
+    (r"is a file of at most ([\d,]+) octets", "crates/gw_console/src/input.rt", r"FILE_LIMIT: usize = ([\d_]+)"),
+    (r"Payloads go up to ([\d,]+) octets", "crates/esp/src/packet.rt", r"PAYLOAD_LIMIT: usize = ([\d_]+)"),
+    (r"of another length than 28, 32, .. ([\d,]+) octets", "crates/esp/src/packet.rt", r"PACKET_LIMIT: usize = ([\d_]+)"),
     (r"It has version 4 and at most ([\d,]+) octets", "crates/policy/src/packet.rt", r"INNER_LIMIT: usize = ([\d_]+)"),
     (r"A message has 28 to ([\d,]+) octets", "crates/wire/src/numbers.rt", r"MESSAGE_LIMIT: usize = ([\d_]+)"),
     (r"A TS payload has 1 to ([\d,]+) selectors", "crates/wire/src/numbers.rt", r"SELECTOR_LIMIT: usize = ([\d_]+)"),
