@@ -1,7 +1,7 @@
 #!/usr/bin/env python3
 """Looks whether README, CONTRIBUTING and docs/ say what the tree says: each link leads to a file and a heading that are there, each quoted output is
 that of the example that it quotes, each quoted contract stands in the file that its block names, each file of a crate is there and has the words that the page places in it, each mutant
-that is named is there, and each figure of FIGURES is the one of the source that it names.
+that is named and each witness is there, and each figure of FIGURES is the one of the source that it names.
 
 python3 tools/documents.py prints what is wrong, and ends with status 1 where something is.
 """
@@ -16,7 +16,8 @@ LINK = re.compile(r"\[[^\]]*\]\(([^)\s]+)\)")
 FENCE = re.compile(r"^```.*?^```$", re.M | re.S)
 HEADING = re.compile(r"^#+ (.*)$", re.M)
 NAMED = re.compile(r"\bcrates/([a-z_0-9]+)")
-MUTANTS = re.compile(r"^\*\*Mutants\.\*\*.*?(?=^$)", re.M | re.S)
+MUTANTS = re.compile(r"^\| Mutants \|.*(?:\n\| +\|.*)*", re.M)
+WITNESSES = re.compile(r"^\| Witness \|.*(?:\n\| +\|.*)*", re.M)
 NAME = re.compile(r"`([a-z_0-9]+)/([a-z_0-9]+)`")
 PIECE = re.compile(r"`([^`\n]*)`")
 PLACE = re.compile(r"crates/[a-z_0-9]+/(?:src|specs|proofs|must-fail|must-fail-more)/[\w/.-]+\.(?:rt|antt|edit)")
@@ -107,6 +108,15 @@ def wrong_mutants(page):
                 yield f"{crate}/{name} is no mutant"
 
 
+def wrong_witnesses(page):
+    laws = None
+    for paragraph in WITNESSES.findall(page.read_text()):
+        laws = laws or "".join(it.read_text() for it in (ROOT / "crates").glob("*/src/**/*.rt"))
+        for name in re.findall(r"`([a-z_0-9]+)`", paragraph):
+            if not re.search(rf"\bfn {name}\b", laws):
+                yield f"{name} is no lemma"
+
+
 def number(text):
     return int(re.sub(r"[,_]", "", text))
 
@@ -142,7 +152,7 @@ def wrong_quotes():
 def main():
     wrong = [*wrong_quotes(), *unsaid_figures()]
     for page in PAGES:
-        for look in (wrong_links, wrong_names, wrong_places, wrong_contracts, wrong_mutants, wrong_figures):
+        for look in (wrong_links, wrong_names, wrong_places, wrong_contracts, wrong_mutants, wrong_witnesses, wrong_figures):
             wrong += [f"{page.relative_to(ROOT)}: {it}" for it in look(page)]
     print("\n".join(wrong) or f"{len(PAGES)} pages say what the tree says")
     return 1 if wrong else 0
