@@ -113,7 +113,7 @@ def wrong_witnesses(page):
     for paragraph in WITNESSES.findall(page.read_text()):
         laws = laws or "".join(it.read_text() for it in (ROOT / "crates").glob("*/src/**/*.rt"))
         for name in re.findall(r"`([a-z_0-9]+)`", paragraph):
-            if not re.search(rf"\bfn {name}\b", laws):
+            if "_" in name and not re.search(rf"\bfn {name}\b", laws):
                 yield f"{name} is no lemma"
 
 
