@@ -4,8 +4,9 @@ the step was refused that wanted it, E10, E20, E24 or E27, of which each has to 
 
 From anywhere, after (cd crates/tool_memory && rt run): python3 tools/want_of_memory.py. The C library's allocator is put aside by a small
 library of C, which is built with cc. Alone, the program has to find that all is as with memory, or that memory was wanted for its own
-lists (status 3). With all after it refused, it can only find that nothing was changed by what was refused (status 3). It is no part of the
-gate. Ends with status 1 where the program says anything else, or doesn't end by itself.
+lists (status 3). With all after it refused, it can only find that nothing was changed by what was refused (status 3). Then a thousand ESP
+packets come while all memory is refused, and a list of them that has no room for its outputs. It is no part of the gate. Ends with status 1
+where the program says anything else, or doesn't end by itself.
 """
 import collections
 import pathlib
@@ -25,12 +26,14 @@ ALLOCATOR = r"""
 #include <stdlib.h>
 #include <unistd.h>
 
-static long calls, refused = -1, onward;
+static long calls, refused = -1, onward, mark = -1, marked;
 
 __attribute__((constructor)) static void begin(void) {
     const char *number = getenv("REFUSED");
     if (number) refused = atol(number);
     onward = getenv("ONWARD") != NULL;
+    const char *size = getenv("MARK");
+    if (size) mark = atol(size);
 }
 
 __attribute__((destructor)) static void end(void) {
@@ -38,13 +41,20 @@ __attribute__((destructor)) static void end(void) {
     FILE *out = file ? fopen(file, "w") : NULL;
     if (out) {
         refused = -1;
+        marked = 0;
         fprintf(out, "%ld\n", calls);
         fclose(out);
     }
 }
 
-static int refuses(void) {
+// From a call for as many octets as the mark on all are refused, up to the next such call.
+static int refuses(size_t size) {
     calls++;
+    if ((long)size == mark) {
+        marked = !marked;
+        return 0;
+    }
+    if (marked) return 1;
     return refused > 0 && (onward ? calls >= refused : calls == refused);
 }
 
@@ -52,12 +62,12 @@ static int refuses(void) {
 
 extern void *__libc_malloc(size_t), *__libc_calloc(size_t, size_t), *__libc_realloc(void *, size_t), *__libc_memalign(size_t, size_t);
 
-void *malloc(size_t size) { return refuses() ? NULL : __libc_malloc(size); }
-void *calloc(size_t count, size_t size) { return refuses() ? NULL : __libc_calloc(count, size); }
-void *realloc(void *at, size_t size) { return refuses() ? NULL : __libc_realloc(at, size); }
-void *aligned_alloc(size_t align, size_t size) { return refuses() ? NULL : __libc_memalign(align, size); }
+void *malloc(size_t size) { return refuses(size) ? NULL : __libc_malloc(size); }
+void *calloc(size_t count, size_t size) { return refuses(count * size) ? NULL : __libc_calloc(count, size); }
+void *realloc(void *at, size_t size) { return refuses(size) ? NULL : __libc_realloc(at, size); }
+void *aligned_alloc(size_t align, size_t size) { return refuses(size) ? NULL : __libc_memalign(align, size); }
 int posix_memalign(void **at, size_t align, size_t size) {
-    void *found = refuses() ? NULL : __libc_memalign(align, size);
+    void *found = refuses(size) ? NULL : __libc_memalign(align, size);
     if (!found) return ENOMEM;
     *at = found;
     return 0;
@@ -65,18 +75,27 @@ int posix_memalign(void **at, size_t align, size_t size) {
 """
 
 # What may be said, with its status.
-AGAIN = r"all as with memory, one step refused and given again: (E\d+): .*"
+AGAIN = r"all as with memory, one step refused and given again: (E\d+: .*)"
 NOTHING = r"all as with memory, nothing refused"
 WITHOUT = r"no memory"
 ALONE = {AGAIN: 0, NOTHING: 0, WITHOUT: 3}
 ONWARD = {NOTHING: 0, WITHOUT: 3}
 
-# Each of these wants memory somewhere on the way.
-CODES = {"E10", "E20", "E24", "E27"}
+# Each of these is said of some growth on the way, and nothing else.
+TEXTS = {
+    "E10: no memory",
+    "E20: no memory for the packet",
+    "E20: no memory for the replay window",
+    "E24: no memory for the selectors",
+    "E27: no memory for the table",
+}
+# The mark of crates/tool_memory/src/thousand.rt, and what is said of it.
+MARK = "7777777"
+THOUSAND = ("without memory 1000 of 1000 packets went up; of a list of them: E38: no room after 0 inputs", 0)
 
 
-def run(library, **environment):
-    ran = subprocess.run([PROGRAM], env={"LD_PRELOAD": str(library), **environment}, capture_output=True, text=True, timeout=60)
+def run(library, *words, **environment):
+    ran = subprocess.run([PROGRAM, *words], env={"LD_PRELOAD": str(library), **environment}, capture_output=True, text=True, timeout=60)
     return ran.stdout.strip(), ran.returncode
 
 
@@ -93,7 +112,7 @@ def main():
         counted = room / "counted"
         print("with memory:", *run(library, COUNTED=str(counted)))
         calls = int(counted.read_text())
-        wrong, codes = 0, []
+        wrong, texts = 0, []
         for words, allowed in (({}, ALONE), ({"ONWARD": "1"}, ONWARD)):
             found = collections.Counter()
             for number in range(1, calls + 1):
@@ -105,10 +124,13 @@ def main():
             print("with all after it refused:" if words else "each alone refused:")
             for (said, status), times in sorted(found.items()):
                 print(f"  {times} times: {said} (status {status})")
-                codes += re.findall(AGAIN, said)
-        for code in sorted(CODES - set(codes)):
+                texts += re.findall(AGAIN, said)
+        for text in sorted(TEXTS ^ set(texts)):
             wrong += 1
-            print(f"nothing was refused as {code}")
+            print(f"nothing was refused as: {text}" if text in TEXTS else f"refused in other words: {text}")
+        said = run(library, "thousand", MARK=MARK)
+        print("all refused:", *said)
+        wrong += said != THOUSAND
     return 1 if wrong else 0
 
 

@@ -10,19 +10,57 @@
 //! It prints what was found, with the words of what was refused. The exit status is 0 where all is as
 //! it should be, 1 where it isn't, and 3 where memory was wanted twice in a row, or for the program's
 //! own lists.
+//!
+//! With any word on its command line it does this instead (`thousand`): a thousand ESP packets come to one gateway
+//! while all memory is refused, and then a list of them that has no room for its outputs.
 #![tactic(auto)]
 
 mod link;
+mod thousand;
 
 use gateway::Reason;
 use link::{Link, Trouble};
 use std::alloc::Global;
+use std::env;
 use std::io::Error;
 use std::process::ExitCode;
+use thousand::{COUNT, Found};
 
 fn main(rt: HostRuntime) -> ExitCode {
+    match words(&rt) {
+        Ok(words) if words.len() > 1 => without_memory(&rt),
+        _ => with_and_without(&rt),
+    }
+}
+
+// The words of the command line, the program's own name first.
+fn words(rt: &HostRuntime) -> Result<Vec<String>, Trouble> {
+    match env::args(rt) {
+        Ok(words) => Ok(words.collect(rt.alloc())?),
+        Err(_) => Err(Trouble::Memory),
+    }
+}
+
+// What comes of a thousand packets while all memory is refused.
+fn without_memory(rt: &HostRuntime) -> ExitCode {
+    let (said, status) = match thousand::play(rt.alloc()) {
+        Ok(Found { up, stop }) => (
+            println!(rt;
+                "without memory {up} of {COUNT} packets went up; of a list of them: {stop}"
+            ),
+            0,
+        ),
+        Err(_) => (println!(rt; "another answer than with memory"), 1),
+    };
+    match said {
+        Ok(()) => ExitCode::from(status),
+        Err(_) => ExitCode::from(1),
+    }
+}
+
+fn with_and_without(rt: &HostRuntime) -> ExitCode {
     let (said, status) = match play(rt.alloc()) {
-        Ok(refused) => (tell(&rt, refused), 0),
+        Ok(refused) => (tell(rt, refused), 0),
         Err(Trouble::Changed) => (println!(rt; "a refusal changed something"), 1),
         Err(Trouble::Other) => (println!(rt; "another answer than with memory"), 1),
         Err(Trouble::Memory) => (println!(rt; "no memory"), 3),
