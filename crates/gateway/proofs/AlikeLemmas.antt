@@ -32,7 +32,7 @@ all_without {X} P (mark ∷ marks) [] all = all
 all_without {X} P (true ∷ marks) (x ∷ xs) all = all_without P marks xs all.1
 all_without {X} P (false ∷ marks) (x ∷ xs) all = (all.0, all_without P marks xs all.1)
 
-all_taken : {X : Type 0} (P : X → Type 0) (count : ℕ) (xs : List X) → AllByRecursion P xs → AllByRecursion P (take count xs)
+pub all_taken : {X : Type 0} (P : X → Type 0) (count : ℕ) (xs : List X) → AllByRecursion P xs → AllByRecursion P (take count xs)
 all_taken {X} P zero xs all = record {}
 all_taken {X} P (suc count) [] all = record {}
 all_taken {X} P (suc count) (x ∷ xs) all = (all.0, all_taken P count xs all.1)
@@ -42,7 +42,7 @@ all_taken {X} P (suc count) (x ∷ xs) all = (all.0, all_taken P count xs all.1)
 caller_stays : {C : Type 0} (meaning_of : C → Meaning) (p : Passage C) → IsPassage meaning_of p → p.after.caller ≡ p.before.caller
 caller_stays {C} meaning_of p is = ap (λ (s : State C). s.caller) is.steps.traces.kept
 
-rightly_given : {C : Type 0} (meaning_of : C → Meaning) (passages : List (Passage C)) (inputs : List Input) (old new : State C) → IsTrail meaning_of old passages new → map (λ p. p.given) passages ≡ inputs
+pub rightly_given : {C : Type 0} (meaning_of : C → Meaning) (passages : List (Passage C)) (inputs : List Input) (old new : State C) → IsTrail meaning_of old passages new → map (λ p. p.given) passages ≡ inputs
     → AreGiven (meaning_of old.caller) inputs → AllByRecursion (IsRightlyGiven meaning_of) passages
 rightly_given {C} meaning_of [] inputs old new trail takes all = record {}
 rightly_given {C} meaning_of (p ∷ ps) inputs old new trail takes all =

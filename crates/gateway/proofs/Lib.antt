@@ -54,3 +54,34 @@ mod AlikeLemmas
 pub mod BeforeLemmas
 pub mod AlongLemmas
 pub mod ExchangeLemmas
+pub mod RenamedLaws
+pub mod PairRenaming
+mod TableRenaming
+mod ChildRenaming
+mod FirstRenaming
+mod FurtherRenaming
+mod InformationalRenaming
+mod MessageRenaming
+mod RenamedAll
+mod RenamingLemmas
+mod PacketRenaming
+mod HeldRenaming
+mod ReceivingRenaming
+mod OrderRenaming
+mod TickRenaming
+mod MachineRenaming
+mod StepRenaming
+mod ListRemoval
+mod TickRemoval
+mod DatagramRemoval
+mod CommandRemoval
+mod Removal
+mod BesideLists
+mod BesideLemmas
+pub mod BegunLemmas
+mod BesideRuns
+mod Nonces
+mod ProvedLemmas
+mod PartnerLemmas
+mod DrawnLemmas
+mod UniqueLemmas

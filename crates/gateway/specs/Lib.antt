@@ -43,3 +43,9 @@ pub mod Strangers
 pub mod Spis
 pub mod Origin
 pub mod LeavingOut
+pub mod Renaming
+pub mod Others
+pub mod Beside
+pub mod Agreeing
+pub mod DrawnNonces
+pub mod Partners

@@ -1,20 +1,27 @@
 //! Lemmas on the definitions. Each function here does nothing: its contract is the statement, which stands
 //! in `specs/LawsOf..` under a name of its own. The comment above the function says it in words.
 
+mod beside;
 mod outputs;
 mod packets;
+mod partners;
 mod runs;
 mod steps;
 mod strangers;
 mod together;
 mod worlds;
 
+pub use beside::{others_step_as_without, steps_go_by_no_serial, strangers_can_be_left_out};
 pub use outputs::{
     few_go_out_again, what_goes_up_is_part_of_what_came, what_is_made_fits, what_is_sent_fits,
     what_is_told_is_stored,
 };
 pub use packets::{
     a_dropped_packet_takes_one_number_at_most, the_protected_never_goes_in_the_clear,
+};
+pub use partners::{
+    a_partner_is_the_only_one, an_established_initiator_has_a_partner,
+    an_established_responder_has_a_partner,
 };
 pub use runs::{
     every_run_keeps_its_promises, runs_in_a_row_are_one_run,

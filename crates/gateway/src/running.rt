@@ -2,6 +2,7 @@
 ghost use Rattle.std.specs.Prelude.{◌≡◌, ◌+◌, ◌≤◌, OnOk, IfErr, IfSome, IsOk, length, map, vec_len};
 ghost use Rattle.std.specs.Vec.{vec_capacity};
 ghost use Rattle.esp.specs.Precomputed.{ArePrecomputed, IsPrecomputed};
+ghost use Rattle.gateway.specs.Beside.{HasOneResultBeside};
 ghost use Rattle.gateway.specs.Carrying.{EachPairIsOfAnEstablished};
 ghost use Rattle.gateway.specs.Groups.{TakesFirst, packet_in, packets_in};
 ghost use Rattle.gateway.specs.Inputs.{input_view};
@@ -14,7 +15,9 @@ ghost use Rattle.gateway.specs.Steps.{Steps};
 ghost use Rattle.effects.specs.Taking.{meaning_of};
 
 use crate::ahead::gain_ahead;
-use crate::laws::{every_run_keeps_its_promises, what_has_no_effect_can_be_left_out};
+use crate::laws::{
+    every_run_keeps_its_promises, strangers_can_be_left_out, what_has_no_effect_can_be_left_out,
+};
 use crate::{Gateway, Input, Output, RunFault};
 use esp::{FEW, GROUP, Precomputed, no_values, value_at};
 use std::alloc::Global;
@@ -58,6 +61,9 @@ use suite::{Agreement, Proof, Sealer};
 /// - An input that is refused on allocation failure counts as lost.
 /// - One list has one result. What is strange, refused or without effect for another reason can be left out
 ///   of it: all else is answered the same, and the gateway holds the same afterwards, unless memory runs out.
+/// - So can strangers' requests for an IKE SA, up to the serials of IKE SAs, as long as no limit is reached and
+///   what stays has nothing to do with what they began (`beside`;
+///   [`strangers_can_be_left_out`](crate::laws::strangers_can_be_left_out) says it whole).
 pub fn run<'a, C: Sealer + Agreement + Proof>(
     alloc: Global,
     gateway: &mut Gateway<C>,
@@ -74,10 +80,14 @@ pub fn run<'a, C: Sealer + Agreement + Proof>(
     ensures determined { HasOneResultWithout
         (meaning_of C.Sealer C.Agreement C.Proof)
         (map input_view inputs.now) gateway.old }
+    ensures beside { HasOneResultBeside
+        (meaning_of C.Sealer C.Agreement C.Proof)
+        (map input_view inputs.now) gateway.old }
     ensures standing { EachPairIsOfAnEstablished gateway.old }
     ensures inside { LiesInside gateway.old }
 {
     every_run_keeps_its_promises::<C>();
+    strangers_can_be_left_out::<C>();
     what_has_no_effect_can_be_left_out::<C>();
     gateway.tell_their_lengths(inputs);
     gateway.invariants_hold();

@@ -1,10 +1,6 @@
-mod Nonces
 mod WorkedDeletionStages
 mod WorkedDeletionLemmas
 mod WorkedStrangerLemmas
 mod WorkedClosingLemmas
-mod ProvedLemmas
-mod PartnerLemmas
 mod WorkedPartnerLemmas
-mod DrawnLemmas
-mod UniqueLemmas
+mod WorkedBesideLemmas

@@ -1,6 +1,6 @@
 -- The worked run meets the premises of a partner, and has one.
 use Rattle.std.proofs.Common.{◌≡◌, ◌∷◌, inl, inr, ℕ, zero, suc, Bool, true, false, cond, List, [], Some, None, arith, refl, subst, sym, ◌∙◌}
-use Rattle.std.proofs.lemmas.Option.{none-some, same_Some}
+use Rattle.std.proofs.lemmas.Option.{same_Some}
 use Rattle.std.specs.Prelude.{⊤, replicate, slice_get}
 use Rattle.base.specs.Octets.{Octets}
 use Rattle.suite.specs.declared.key_record.KeyRecord.{KeyRecord}
@@ -33,8 +33,8 @@ use Rattle.laws_two_ends.proofs.Stages.{accepts, all_steps, answering, answers, 
 use Rattle.laws_two_ends.proofs.StateLemmas.{found_is}
 use Rattle.laws_two_ends.proofs.WorkedRecordLemmas.{init_sent, waiting}
 use Rattle.laws_two_ends.proofs.WorkedRunLemmas.{run_is}
-use Rattle.laws_authenticated.specs.Agreeing.{HasAsker, HasPartner, HasProved, IsEstablishedAsInitiator, IsEstablishedAsResponder, IsToBeProved, NoProofIsForged, NoTwoRecordsProveAlike, ProvesAsInitiator, ProvesAsResponder}
-use Rattle.laws_authenticated.specs.DrawnNonces.{DrawsNonce, EachAnswerDrawsItsNonce, EachNonceIsDrawnOnce}
+use Rattle.gateway.specs.Agreeing.{HasAsker, HasPartner, HasProved, IsEstablishedAsInitiator, IsEstablishedAsResponder, IsToBeProved, NoProofIsForged, NoTwoRecordsProveAlike, ProvesAsInitiator, ProvesAsResponder}
+use Rattle.gateway.specs.DrawnNonces.{DrawsNonce, EachAnswerDrawsItsNonce, EachNonceIsDrawnOnce}
 use Rattle.laws_authenticated.specs.WorkedPartners.{AcceptsProof, IsWorkedPartner}
 
 -- ---- what its peer has to prove

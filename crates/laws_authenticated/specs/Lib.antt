@@ -1,6 +1,5 @@
 pub mod WorkedDeletions
 pub mod WorkedStrangers
 pub mod WorkedClosings
-pub mod Agreeing
 pub mod WorkedPartners
-pub mod DrawnNonces
+pub mod WorkedBeside

@@ -16,8 +16,8 @@ use Rattle.gateway.specs.declared.world.stored.End.{End}
 use Rattle.gateway.specs.declared.world.stored.End.TheVariants.{A, B}
 use Rattle.laws_two_ends.specs.WorkedRecords.{worked_record, CanBeMeant}
 use Rattle.laws_two_ends.specs.WorkedRuns.{events_of, new_ends, outputs_of, run_meaning, Exchanged}
-use Rattle.laws_authenticated.specs.DrawnNonces.{EachAnswerDrawsItsNonce, EachNonceIsDrawnOnce}
-use Rattle.laws_authenticated.specs.Agreeing.{HasAsker, HasPartner, IsEstablishedAsInitiator, IsEstablishedAsResponder, IsToBeProved, NoProofIsForged, NoTwoRecordsProveAlike}
+use Rattle.gateway.specs.DrawnNonces.{EachAnswerDrawsItsNonce, EachNonceIsDrawnOnce}
+use Rattle.gateway.specs.Agreeing.{HasAsker, HasPartner, IsEstablishedAsInitiator, IsEstablishedAsResponder, IsToBeProved, NoProofIsForged, NoTwoRecordsProveAlike}
 
 -- With this step the check of an end accepts a proof of its peer over these octets, and its IKE SA with this
 -- serial is established by it. Of each such step the premise that no proof is forged asks something.

@@ -213,36 +213,44 @@ fn open_each(
     ensures { Runs (TakesEspAt octets.now) places.now outs.new gateway.old gateway.new }
 {
     for (turn, place) in places.iter().enumerate() {
-        outs[turn] = open_one(gateway, octets, place, value_at(ahead, turn));
+        open_one(
+            gateway,
+            octets,
+            place,
+            value_at(ahead, turn),
+            &mut outs[turn],
+        );
     }
 }
 
-// Takes the ESP packet at a place, with its ICV where that was computed ahead.
+// Takes the ESP packet at a place, with its ICV where that was computed ahead, and writes its record.
 fn open_one(
     gateway: &mut Gateway<PeerCaller>,
     octets: &[u8],
     place: &SukPlace,
     ahead: Option<Precomputed>,
-) -> SukOutput
+    out: &mut SukOutput,
+)
     requires { LiesIn octets.now place.now → IfSome ahead (IsPrecomputed (packet_at octets.now place.now)) }
-    ensures { TakesEspAt octets.now place.now gateway.old result gateway.new }
+    ensures { TakesEspAt octets.now place.now gateway.old out.new gateway.new }
 {
-    let Some(packet) = place.packet_in(octets) else {
-        return SukOutput::refused(Refusal::Place);
-    };
-    open_packet(gateway, packet, ahead)
+    match place.packet_in(octets) {
+        Some(packet) => open_packet(gateway, packet, ahead, out),
+        None => *out = SukOutput::refused(Refusal::Place),
+    }
 }
 
-// Takes an ESP packet, with its ICV where that was computed ahead.
+// Takes an ESP packet, with its ICV where that was computed ahead, and writes its record.
 fn open_packet(
     gateway: &mut Gateway<PeerCaller>,
     packet: &[u8],
     ahead: Option<Precomputed>,
-) -> SukOutput
+    out: &mut SukOutput,
+)
     requires { IfSome ahead (IsPrecomputed packet.now) }
-    ensures { TakesEsp packet.now gateway.old result gateway.new }
+    ensures { TakesEsp packet.now gateway.old out.new gateway.new }
 {
-    SukOutput::of_arrival(&gateway.receive_ahead(packet, ahead))
+    *out = SukOutput::of_arrival(&gateway.receive_ahead(packet, ahead));
 }
 
 // Sets the input at each place, for what is computed ahead.
@@ -412,19 +420,19 @@ fn lay_group(
 {
     let mut end = used;
     for (turn, place) in places.iter().enumerate() {
-        let next = lay_next(gateway, octets, place, room, end, buffer);
-        outs[turn] = next.0;
-        spans[turn] = next.1;
-        end += next.1.length;
+        let span = lay_next(gateway, octets, place, room, end, buffer, &mut outs[turn]);
+        spans[turn] = span;
+        end += span.length;
     }
     end
 }
 
 // Takes the packet at a place. Its ESP packet, still without its ICV, is written into the room from `begin`
-// on. Answers the record, and which part of the room the ESP packet is: none where the packet is refused, or
-// goes out without ESP.
+// on, and its record where that is to stand. Answers which part of the room the ESP packet is: none where the
+// packet is refused, or goes out without ESP.
 //
-// It is laid in the handle's buffer first and copied at once, while it is in the processor's cache.
+// It is laid in the handle's buffer first and copied at once, while it is in the processor's cache. A record
+// that was answered instead would be copied, by wide loads right behind narrow stores.
 fn lay_next(
     gateway: &mut Gateway<PeerCaller>,
     octets: &[u8],
@@ -432,23 +440,31 @@ fn lay_next(
     room: &mut [u8],
     begin: usize,
     buffer: &mut Vec<u8>,
-) -> (SukOutput, Span)
+    out: &mut SukOutput,
+) -> Span
     requires within { begin ≤ length room.old }
     ensures { (used : ℕ) → used ≤ begin → LaysNext octets.now place.now used begin gateway.old room.old
-        result.0 result.1 gateway.new room.new }
+        out.new result gateway.new room.new }
 {
     let packet = match packet_for(place, octets, room.len() - begin) {
         Ok(packet) => packet,
-        Err(refusal) => return (SukOutput::refused(refusal), nothing()),
+        Err(refusal) => {
+            *out = SukOutput::refused(refusal);
+            return nothing();
+        }
     };
     buffer.clear();
     match gateway.lay_behind(packet, buffer) {
         Ok(laid) => {
             let length = buffer.len();
             write_front(&mut room[begin..], buffer.as_slice());
-            (told_at(&laid, begin, length), span_of(&laid, length))
+            *out = told_at(&laid, begin, length);
+            span_of(&laid, length)
         }
-        Err(_) => (SukOutput::refused(Refusal::Memory), nothing()),
+        Err(_) => {
+            *out = SukOutput::refused(Refusal::Memory);
+            nothing()
+        }
     }
 }
 

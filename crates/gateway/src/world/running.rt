@@ -3,12 +3,15 @@ ghost use Rattle.std.specs.Prelude.{◌+◌, ◌≤◌, OnOk, IfErr, length, map
 ghost use Rattle.std.specs.Vec.{vec_capacity};
 ghost use Rattle.gateway.specs.BothEnds.{KeepsBothEnds};
 ghost use Rattle.gateway.specs.Inputs.{event_view};
+ghost use Rattle.gateway.specs.Partners.{HavePartners};
 ghost use Rattle.gateway.specs.WorldRuns.{PlaysFirst, StopsBeforeSending, StopsPlaying};
 ghost use Rattle.effects.specs.Taking.{meaning_of};
 
 use super::{Event, World};
 use crate::laws::{
-    both_ends_keep_their_promises, every_run_keeps_its_promises, every_world_stays_sound,
+    a_partner_is_the_only_one, an_established_initiator_has_a_partner,
+    an_established_responder_has_a_partner, both_ends_keep_their_promises,
+    every_run_keeps_its_promises, every_world_stays_sound,
 };
 use crate::{Output, RunFault};
 use std::alloc::Global;
@@ -54,6 +57,11 @@ use suite::{Agreement, Proof, Sealer};
 ///   no other child that sends under its inbound SPI and key;
 /// - no number of a child delivers twice (RFC 4301, section 4.1; RFC 4303, section 3.4);
 /// - what is delivered had been sealed before it came, where nothing was forged up to that step.
+///
+/// Of two ends that held nothing before the list, who is established has one partner at the other, under the same
+/// keys, where no proof of an identity is forged (`partners`; RFC 7296, section 2.15). What else that asks of
+/// nonces and proofs is said with [`an_established_initiator_has_a_partner`],
+/// [`an_established_responder_has_a_partner`] and [`a_partner_is_the_only_one`].
 pub fn run_world<'a, C: Sealer + Agreement + Proof>(
     alloc: Global,
     world: &mut World<C>,
@@ -71,7 +79,13 @@ pub fn run_world<'a, C: Sealer + Agreement + Proof>(
     ensures both { KeepsBothEnds C.body_of C.plain_of
         (meaning_of C.Sealer C.Agreement C.Proof)
         (map event_view events.now) world.old outputs.old.items world.new outputs.new.items }
+    ensures partners { HavePartners
+        (meaning_of C.Sealer C.Agreement C.Proof)
+        (map event_view events.now) world.old }
 {
+    a_partner_is_the_only_one::<C>();
+    an_established_initiator_has_a_partner::<C>();
+    an_established_responder_has_a_partner::<C>();
     both_ends_keep_their_promises::<C>();
     every_run_keeps_its_promises::<C>();
     every_world_stays_sound::<C>();

@@ -4,6 +4,7 @@ use Rattle.effects.specs.Taking.{Meaning}
 use Rattle.gateway.specs.Groups.{TakesFirst}
 use Rattle.gateway.specs.Inputs.{Input, input_view}
 use Rattle.gateway.proofs.AlikeLemmas.{one_result}
+use Rattle.gateway.proofs.BesideRuns.{one_result_beside}
 use Rattle.gateway.proofs.GroupLemmas.{takes_more}
 use Rattle.gateway.proofs.RunLemmas.{part_of_image}
 use Rattle.gateway.proofs.running.run.Goals as goal
@@ -141,3 +142,33 @@ returns-clause-determined g c =
       accepts = g.C.Proof.accepts caller;
     } in
     one_result meaning_of (map input_view c.args.inputs.now) c.args.gateway.now c.what_has_no_effect_can_be_left_out.ensures c.tell_their_lengths.ensures
+
+pub returns-then-taken-count-clause-beside : goal.returns-then-taken-count-clause-beside
+returns-then-taken-count-clause-beside g c =
+    let meaning_of : _ → Meaning = λ caller. record {
+      cipher = g.C.Sealer.cipher;
+      body_of = g.C.Sealer.body_of;
+      plain_of = g.C.Sealer.plain_of;
+      group = g.C.Agreement.group_number;
+      public_value = g.C.Agreement.public_value;
+      shared_secret = g.C.Agreement.shared_secret;
+      own_method = g.C.Proof.own_method caller;
+      proof_of = g.C.Proof.proof_of caller;
+      accepts = g.C.Proof.accepts caller;
+    } in
+    one_result_beside meaning_of (map input_view c.args.inputs.now) c.args.gateway.now c.strangers_can_be_left_out.ensures.beside c.tell_their_lengths.ensures
+
+pub returns-clause-beside : goal.returns-clause-beside
+returns-clause-beside g c =
+    let meaning_of : _ → Meaning = λ caller. record {
+      cipher = g.C.Sealer.cipher;
+      body_of = g.C.Sealer.body_of;
+      plain_of = g.C.Sealer.plain_of;
+      group = g.C.Agreement.group_number;
+      public_value = g.C.Agreement.public_value;
+      shared_secret = g.C.Agreement.shared_secret;
+      own_method = g.C.Proof.own_method caller;
+      proof_of = g.C.Proof.proof_of caller;
+      accepts = g.C.Proof.accepts caller;
+    } in
+    one_result_beside meaning_of (map input_view c.args.inputs.now) c.args.gateway.now c.strangers_can_be_left_out.ensures.beside c.tell_their_lengths.ensures

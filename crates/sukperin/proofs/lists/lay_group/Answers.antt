@@ -35,10 +35,10 @@ loop-turn-preserved c =
     let wide : turn < length c.loop-turn.spans = omega arith in
     let same : length room ≡ length c.args.room.now = c.loop-turn.auto.room in
     let begins = i.begins in
-    let next = c.lay_next-next.ensures used begins in
-    let new = c.lay_next-next.new.gateway in
-    let span : Span = c.lay_next-next.result.1 in
-    let filled = c.lay_next-next.new.room in
+    let next = c.lay_next-span.ensures used begins in
+    let new = c.lay_next-span.new.gateway in
+    let span : Span = c.lay_next-span.result in
+    let filled = c.lay_next-span.new.room in
     let fits = next.fits in
     let spans : List Span = take turn c.loop-turn.spans in
     let more : take (turn + 1) (set c.loop-turn.spans turn span) ≡ spans ++ span ∷ [] = take_more_set c.loop-turn.spans turn span wide in
@@ -46,16 +46,16 @@ loop-turn-preserved c =
     let mid : Sent = record { gateway = c.loop-turn.gateway; octets = take used room ++ finished_row c.loop-turn.gateway.table.pairs spans (laid_behind used end room) } in
     let done : Sent = record { gateway = new; octets = take used filled ++ finished_row new.table.pairs (spans ++ span ∷ []) (laid_behind used (end + span.length) filled) } in
     let step = TakesOutAt c.args.octets.now (length c.args.room.now) in
-    let taken : step place mid c.lay_next-next.result.0 done =
-    subst (λ (n : ℕ). TakesOutAt c.args.octets.now n place mid c.lay_next-next.result.0 done) same (next.takes spans i.whole)
+    let taken : step place mid c.lay_next-span.new.out done =
+    subst (λ (n : ℕ). TakesOutAt c.args.octets.now n place mid c.lay_next-span.new.out done) same (next.takes spans i.whole)
     in
-    let runs = run_next step places c.loop-turn.outs begin mid done turn place c.lay_next-next.result.0 there long
+    let runs = run_next step places c.loop-turn.outs begin mid done turn place c.lay_next-span.new.out there long
     (get_or_default places turn (record { offset = 0; length = 0 }) place there) i.runs taken
     in
     let counted = ap octets_of more ∙ octets_more spans span in
     let whole = i.whole in
     record {
-      runs = subst (λ (ss : List Span). Runs step (take (turn + 1) places) (take (turn + 1) (set c.loop-turn.outs turn c.lay_next-next.result.0)) begin
+      runs = subst (λ (ss : List Span). Runs step (take (turn + 1) places) (take (turn + 1) (set c.loop-turn.outs turn c.lay_next-span.new.out)) begin
           (record { gateway = new; octets = take used filled ++ finished_row new.table.pairs ss (laid_behind used (end + span.length) filled) })) (sym more) runs;
       begins = omega arith;
       whole = counted ∙ omega arith;

@@ -23,7 +23,7 @@ loop-turn-preserved c =
     let there = c.loop-turn-test.true in
     let place : SukPlace = get_or places turn (record { offset = 0; length = 0 }) in
     let long : turn < length c.loop-turn.outs = omega arith in
-    run_next (TakesEspAt c.args.octets.now) places c.loop-turn.outs c.args.gateway.now c.loop-turn.gateway c.open_one.new.gateway turn place c.open_one.result there long
+    run_next (TakesEspAt c.args.octets.now) places c.loop-turn.outs c.args.gateway.now c.loop-turn.gateway c.open_one.new.gateway turn place c.open_one.new.out there long
     (get_or_default places turn (record { offset = 0; length = 0 }) place there) c.loop-turn.invariant c.open_one.ensures
 
 pub returns : goal.returns

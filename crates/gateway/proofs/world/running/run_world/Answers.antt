@@ -144,3 +144,33 @@ returns-clause-both g c =
       accepts = g.C.Proof.accepts caller;
     } in
     keeps_both_ends meaning_of g.C.Sealer.body_of g.C.Sealer.plain_of c.both_ends_keep_their_promises.ensures c.loop-done.done (map event_view c.args.events.now) c.args.world.now c.args.outputs.now.items i.answers c.loop-done.world c.loop-done.outputs.items i.appended i.runs
+
+pub returns-then-is_err-clause-partners : goal.returns-then-is_err-clause-partners
+returns-then-is_err-clause-partners g c = record {
+  each = λ count outputs new happenings history. record {
+    initiator = c.an_established_initiator_has_a_partner.ensures happenings c.args.world.now new history.trail;
+    responder = c.an_established_responder_has_a_partner.ensures happenings c.args.world.now new history.trail;
+    one_partner = c.a_partner_is_the_only_one.ensures.initiator happenings c.args.world.now new history.trail;
+    one_asker = c.a_partner_is_the_only_one.ensures.responder happenings c.args.world.now new history.trail;
+  };
+}
+
+pub returns-in_default-clause-partners : goal.returns-in_default-clause-partners
+returns-in_default-clause-partners g c = record {
+  each = λ count outputs new happenings history. record {
+    initiator = c.an_established_initiator_has_a_partner.ensures happenings c.args.world.now new history.trail;
+    responder = c.an_established_responder_has_a_partner.ensures happenings c.args.world.now new history.trail;
+    one_partner = c.a_partner_is_the_only_one.ensures.initiator happenings c.args.world.now new history.trail;
+    one_asker = c.a_partner_is_the_only_one.ensures.responder happenings c.args.world.now new history.trail;
+  };
+}
+
+pub returns-clause-partners : goal.returns-clause-partners
+returns-clause-partners g c = record {
+  each = λ count outputs new happenings history. record {
+    initiator = c.an_established_initiator_has_a_partner.ensures happenings c.args.world.now new history.trail;
+    responder = c.an_established_responder_has_a_partner.ensures happenings c.args.world.now new history.trail;
+    one_partner = c.a_partner_is_the_only_one.ensures.initiator happenings c.args.world.now new history.trail;
+    one_asker = c.a_partner_is_the_only_one.ensures.responder happenings c.args.world.now new history.trail;
+  };
+}

@@ -1,8 +1,8 @@
 use Rattle.std.proofs.Common.{refl}
 use Rattle.effects.specs.Taking.{meaning_of}
 use Rattle.gateway.proofs.ExchangeLemmas.{RecordLaws}
-use Rattle.laws_authenticated.proofs.PartnerLemmas.{has_asker, PartnerLaws}
-use Rattle.laws_authenticated.proofs.laws.an_established_responder_has_a_partner.Goals as goal
+use Rattle.gateway.proofs.PartnerLemmas.{has_asker, PartnerLaws}
+use Rattle.gateway.proofs.laws.partners.an_established_responder_has_a_partner.Goals as goal
 
 pub returns : goal.returns
 returns g c =

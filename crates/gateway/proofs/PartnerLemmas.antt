@@ -47,9 +47,9 @@ use Rattle.gateway.proofs.AlongLemmas.{after_here, after_there, ahead, between, 
 use Rattle.gateway.proofs.BeforeLemmas.{given_before, none_some, same_one}
 use Rattle.gateway.proofs.ChildLemmas.{way_of}
 use Rattle.gateway.proofs.ExchangeLemmas.{given_there, held_on, introduced_by, keys_agree, made_of, request_tells, step_at, MadeAt, Offered, RecordLaws, TellsOffer}
-use Rattle.laws_authenticated.proofs.Nonces.{EachNonceIsOfOne}
-use Rattle.laws_authenticated.specs.Agreeing.{IsEstablishedAsInitiator, IsEstablishedAsResponder, HasAsker, HasPartner, HasProved, IsToBeProved, NoProofIsForged, NoTwoRecordsProveAlike, ProvesAsInitiator, ProvesAsResponder}
-use Rattle.laws_authenticated.proofs.ProvedLemmas.{proved_tells}
+use Rattle.gateway.proofs.Nonces.{EachNonceIsOfOne}
+use Rattle.gateway.specs.Agreeing.{IsEstablishedAsInitiator, IsEstablishedAsResponder, HasAsker, HasPartner, HasProved, IsToBeProved, NoProofIsForged, NoTwoRecordsProveAlike, ProvesAsInitiator, ProvesAsResponder}
+use Rattle.gateway.proofs.ProvedLemmas.{proved_tells}
 
 -- what is known of one step
 pub record PartnerLaws : Type 0 where

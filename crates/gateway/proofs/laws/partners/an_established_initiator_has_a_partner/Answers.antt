@@ -1,9 +1,9 @@
 use Rattle.std.proofs.Common.{refl}
 use Rattle.effects.specs.Taking.{asker_of, meaning_of}
 use Rattle.gateway.proofs.ExchangeLemmas.{RecordLaws}
-use Rattle.laws_authenticated.proofs.DrawnLemmas.{each_is_of_one}
-use Rattle.laws_authenticated.proofs.PartnerLemmas.{partner_of, PartnerLaws}
-use Rattle.laws_authenticated.proofs.laws.an_established_initiator_has_a_partner.Goals as goal
+use Rattle.gateway.proofs.DrawnLemmas.{each_is_of_one}
+use Rattle.gateway.proofs.PartnerLemmas.{partner_of, PartnerLaws}
+use Rattle.gateway.proofs.laws.partners.an_established_initiator_has_a_partner.Goals as goal
 
 pub returns : goal.returns
 returns g c =

@@ -29,9 +29,9 @@ use Rattle.gateway.specs.declared.world.stored.End.{End}
 use Rattle.gateway.proofs.AlongLemmas.{after_here, after_there, each_end}
 use Rattle.gateway.proofs.BeforeLemmas.{none_some, same_one}
 use Rattle.gateway.proofs.ChildLemmas.{way_of}
-use Rattle.laws_authenticated.proofs.Nonces.{EachNonceIsOfOne, HasNonce}
-use Rattle.laws_authenticated.specs.DrawnNonces.{DrawsNonce, EachNonceIsDrawnOnce}
-use Rattle.laws_authenticated.proofs.PartnerLemmas.{PartnerLaws}
+use Rattle.gateway.proofs.Nonces.{EachNonceIsOfOne, HasNonce}
+use Rattle.gateway.specs.DrawnNonces.{DrawsNonce, EachNonceIsDrawnOnce}
+use Rattle.gateway.proofs.PartnerLemmas.{PartnerLaws}
 
 -- what waits for a response has its nonce by this
 record IsDrawn (R : ℕ → Octets → Type 0) (serial : ℕ) (a : Association) : Type 0 where

@@ -1,9 +1,9 @@
 use Rattle.std.proofs.Common.{refl}
 use Rattle.effects.specs.Taking.{asker_of, meaning_of}
 use Rattle.gateway.proofs.ExchangeLemmas.{RecordLaws}
-use Rattle.laws_authenticated.proofs.PartnerLemmas.{PartnerLaws}
-use Rattle.laws_authenticated.proofs.UniqueLemmas.{one_asker, one_partner}
-use Rattle.laws_authenticated.proofs.laws.a_partner_is_the_only_one.Goals as goal
+use Rattle.gateway.proofs.PartnerLemmas.{PartnerLaws}
+use Rattle.gateway.proofs.UniqueLemmas.{one_asker, one_partner}
+use Rattle.gateway.proofs.laws.partners.a_partner_is_the_only_one.Goals as goal
 
 pub returns-clause-initiator : goal.returns-clause-initiator
 returns-clause-initiator g c =

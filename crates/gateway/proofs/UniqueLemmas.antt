@@ -1,7 +1,6 @@
 -- Who is established has one partner alone.
-use Rattle.std.proofs.Common.{◌≡◌, inl, inr, ℕ, List, Option, Some, None, slice_get, sym, ap, subst, ◌∙◌}
+use Rattle.std.proofs.Common.{◌≡◌, inl, inr, ℕ, List, Some, None, slice_get, sym, ap, subst, ◌∙◌}
 use Rattle.base.specs.Octets.{Octets}
-use Rattle.wire.specs.declared.message.Header.{Header}
 use Rattle.suite.specs.declared.key_record.KeyRecord.{KeyRecord}
 use Rattle.association.specs.declared.phase.Association.{Association}
 use Rattle.association.specs.declared.phase.HalfOpen.{HalfOpen}
@@ -17,10 +16,10 @@ use Rattle.gateway.proofs.AlongLemmas.{after_here}
 use Rattle.gateway.proofs.BeforeLemmas.{none_some, same_one}
 use Rattle.gateway.proofs.ChildLemmas.{way_of}
 use Rattle.gateway.proofs.ExchangeLemmas.{introduced_by, keys_agree, made_of, request_tells, step_at, MadeAt, TellsOffer}
-use Rattle.laws_authenticated.specs.Agreeing.{HasAsker, HasPartner}
-use Rattle.laws_authenticated.specs.DrawnNonces.{EachAnswerDrawsItsNonce, EachNonceIsDrawnOnce}
-use Rattle.laws_authenticated.proofs.DrawnLemmas.{who_waits_is_one}
-use Rattle.laws_authenticated.proofs.PartnerLemmas.{own_nonce_of_responder, PartnerLaws}
+use Rattle.gateway.specs.Agreeing.{HasAsker, HasPartner}
+use Rattle.gateway.specs.DrawnNonces.{EachAnswerDrawsItsNonce, EachNonceIsDrawnOnce}
+use Rattle.gateway.proofs.DrawnLemmas.{who_waits_is_one}
+use Rattle.gateway.proofs.PartnerLemmas.{own_nonce_of_responder, PartnerLaws}
 
 module _ {C : Type 0} (laws : PartnerLaws) (meaning_of : C → Meaning) where
   -- an IKE SA that a step makes has the next serial
