@@ -14,7 +14,7 @@ use Rattle.sadb.specs.Database.{Database}
 use Rattle.sa_init.specs.Cookies.{CookieSecrets}
 use Rattle.sa_init.specs.Judging.{ASSOCIATION_LIMIT, BringsRightCookie, COOKIE_THRESHOLD, HALF_OPEN_LIMIT, IsConsidered, IsHeard, IsJudgement, JudgementView, OfferView, WantsCookie}
 use Rattle.sa_init.specs.Judging as judging
-use Rattle.sa_init.specs.Parts.{PartsView}
+use Rattle.sa_init.specs.Parts.{HasParts, PartsView}
 use Rattle.sa_init.specs.declared.judging.Sender.{Sender}
 use Rattle.association.specs.Finding.{answers_initial, has_pair, is_meant, is_of_other_role, is_waiting, missing, place_meant, place_or, sent_by_other}
 use Rattle.association.specs.declared.fault.MessageFault.{MessageFault}
@@ -110,11 +110,11 @@ module _ (secrets : CookieSecrets) (sender : Sender) (many few : ℕ) (payloads 
 
 abbrev HeardEitherWay : CookieSecrets → Sender → ℕ → List Payload → Type 0
 HeardEitherWay secrets sender many payloads =
-    (many < COOKIE_THRESHOLD) ⊎ ((many < HALF_OPEN_LIMIT) × ((parts : PartsView) → BringsRightCookie secrets sender payloads parts.nonce))
+    (many < COOKIE_THRESHOLD) ⊎ ((many < HALF_OPEN_LIMIT) × ((parts : PartsView) → HasParts payloads parts → BringsRightCookie secrets sender payloads parts.nonce))
 
 no_cookie : (secrets : CookieSecrets) (sender : Sender) (many : ℕ) (payloads : List Payload) (octets : Octets) → HeardEitherWay secrets sender many payloads → WantsCookie secrets sender many payloads octets → ⊥
 no_cookie secrets sender many payloads octets (inl below) wants = let least = wants.many in omega arith
-no_cookie secrets sender many payloads octets (inr right) wants = wants.unproved (right.1 wants.parts)
+no_cookie secrets sender many payloads octets (inr right) wants = wants.unproved (right.1 wants.parts wants.whole.complete)
 
 few_enough : (secrets : CookieSecrets) (sender : Sender) (many : ℕ) (payloads : List Payload) → HeardEitherWay secrets sender many payloads → many < HALF_OPEN_LIMIT
 few_enough secrets sender many payloads (inl below) = omega arith

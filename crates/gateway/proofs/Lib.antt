@@ -81,7 +81,6 @@ mod BesideLemmas
 pub mod BegunLemmas
 mod BesideRuns
 mod Nonces
-mod ProvedLemmas
 mod PartnerLemmas
 mod DrawnLemmas
 mod UniqueLemmas

@@ -1,5 +1,5 @@
 -- Who is established, as initiator or as responder, has a partner.
-use Rattle.std.proofs.Common.{◌≡◌, ◌<◌, ◌==◌, ◌∷◌, inl, inr, ℕ, Bool, true, false, not, ◌&&◌, List, [], Option, Some, None, slice_get, refl, sym, ap, subst, ◌∙◌, arith}
+use Rattle.std.proofs.Common.{◌≡◌, ◌<◌, ◌==◌, ◌∷◌, ◌++◌, inl, inr, ℕ, Bool, true, false, not, ◌&&◌, List, [], Option, Some, None, slice_get, refl, sym, ap, subst, ◌∙◌, arith}
 use Rattle.std.specs.Prelude.{option_and_then}
 use Rattle.base.specs.Octets.{Octets}
 use Rattle.mac.specs.Hmac.{hmac_sha256}
@@ -48,8 +48,8 @@ use Rattle.gateway.proofs.BeforeLemmas.{given_before, none_some, same_one}
 use Rattle.gateway.proofs.ChildLemmas.{way_of}
 use Rattle.gateway.proofs.ExchangeLemmas.{given_there, held_on, introduced_by, keys_agree, made_of, request_tells, step_at, MadeAt, Offered, RecordLaws, TellsOffer}
 use Rattle.gateway.proofs.Nonces.{EachNonceIsOfOne}
-use Rattle.gateway.specs.Agreeing.{IsEstablishedAsInitiator, IsEstablishedAsResponder, HasAsker, HasPartner, HasProved, IsToBeProved, NoProofIsForged, NoTwoRecordsProveAlike, ProvesAsInitiator, ProvesAsResponder}
-use Rattle.gateway.proofs.ProvedLemmas.{proved_tells}
+use Rattle.proved_octets.specs.Parts.{HaveTheSameParts}
+use Rattle.gateway.specs.Agreeing.{IsEstablishedAsInitiator, IsEstablishedAsResponder, HasAsker, HasPartner, HasProved, IsToBeProved, mac_of, NoProofIsForged, NoTwoRecordsProveAlike, ProvesAsInitiator, ProvesAsResponder}
 
 -- what is known of one step
 pub record PartnerLaws : Type 0 where
@@ -61,6 +61,8 @@ pub record PartnerLaws : Type 0 where
   pub half : WhoIsHalfOpenWasSo
   pub proved : TheEstablishedProvedThemselves
   pub one_message : (m n : Message) (b : Octets) → Spells m b → Spells n b → m ≡ n
+  pub parts : (m n : Message) (first nonce sk_p text other another key content : Octets) → Spells m first → Spells n other
+      → first ++ nonce ++ hmac_sha256 sk_p text ≡ other ++ another ++ hmac_sha256 key content → HaveTheSameParts first nonce sk_p text other another key content
 
 other_twice : (e : End) → other_end (other_end e) ≡ e
 other_twice A = refl
@@ -228,7 +230,7 @@ module _ {C : Type 0} (laws : PartnerLaws) (meaning_of : C → Meaning) where
       pub first : asked < place
       pub sends : SendsRequest asks end serial request
 
-    asked_by : (end : End) (before place : ℕ) (h : Happening C) (octets : Octets) → place < before → slice_get hs place ≡ Some h → (i : ProvesAsInitiator hs place h end octets) → Asked end before i.serial i.request i.told
+    abbrev asked_by : (end : End) (before place : ℕ) (h : Happening C) (octets : Octets) → place < before → slice_get hs place ≡ Some h → (i : ProvesAsInitiator hs place h end octets) → Asked end before i.serial i.request i.told
     asked_by end before place h octets earlier there i = record {
       place = place;
       earlier = earlier;
@@ -328,13 +330,13 @@ module _ {C : Type 0} (laws : PartnerLaws) (meaning_of : C → Meaning) where
           let k = asked_by end before p.by p.prover (octets_to_prove (proving_of Responder told.keys told.first) peer) p.earlier p.there i in
           let tells = tells_of end before i.serial i.request i.told k in
           let own = (gateway_at end p.prover.before).machine.config.own.identity in
-          let same = proved_tells read.message tells.says.message told.first told.keys.nonce_i told.keys.sk_pr (rest_of_id peer.kind peer.data) i.request i.told.keys.nonce_r i.told.keys.sk_pi (rest_of_id own.kind own.data) read.spelled tells.says.spelled i.proved in
+          let same = laws.parts read.message tells.says.message told.first told.keys.nonce_i told.keys.sk_pr (rest_of_id peer.kind peer.data) i.request i.told.keys.nonce_r i.told.keys.sk_pi (rest_of_id own.kind own.data) read.spelled tells.says.spelled i.proved in
           absurd (response_not read.message tells.says.message
           (laws.one_message read.message tells.says.message i.request (subst (λ (o : Octets). Spells read.message o) same.firsts read.spelled) tells.says.spelled) read.response tells.asks)
       | inr pr ↦
           let made = made_by end p.by p.prover (octets_to_prove (proving_of Responder told.keys told.first) peer) pr in
           let own = (gateway_at end p.prover.before).machine.config.own.identity in
-          let same = proved_tells read.message made.says.message told.first told.keys.nonce_i told.keys.sk_pr (rest_of_id peer.kind peer.data) pr.response pr.opened.keys.nonce_i pr.opened.keys.sk_pr (rest_of_id own.kind own.data) read.spelled made.says.spelled pr.proved in
+          let same = laws.parts read.message made.says.message told.first told.keys.nonce_i told.keys.sk_pr (rest_of_id peer.kind peer.data) pr.response pr.opened.keys.nonce_i pr.opened.keys.sk_pr (rest_of_id own.kind own.data) read.spelled made.says.spelled pr.proved in
           record {
             by = p.by;
             earlier = p.earlier;
@@ -365,17 +367,15 @@ module _ {C : Type 0} (laws : PartnerLaws) (meaning_of : C → Meaning) where
         }) in
         kept.each pr.was pr.stood pr.opened pr.waited
 
-    record AskedBy (end : End) (before : ℕ) (opened : HalfOpen) : Type 0 where
+    record AskedBy (end : End) (before : ℕ) (opened : HalfOpen) (peer : Identity) : Type 0 where
       pub serial : ℕ
       pub request : Octets
       pub told : AuthSent
       pub asked : Asked end before serial request told
       pub request_is : opened.request ≡ request
-      pub peer : Identity
-      pub own : Identity
-      pub macs : hmac_sha256 told.keys.sk_pi (rest_of_id own.kind own.data) ≡ hmac_sha256 opened.keys.sk_pi (rest_of_id peer.kind peer.data)
+      pub macs : mac_of told.keys (gateway_at end asked.h.before).machine.config.own.identity ≡ mac_of opened.keys peer
 
-    asked_of : (end : End) (by : ℕ) (prover : Happening C) (serial : ℕ) (keys : KeyRecord) (c : IsEstablishedAsResponder prover end serial keys) → slice_get hs by ≡ Some prover → AskedBy (other_end end) by c.opened
+    asked_of : (end : End) (by : ℕ) (prover : Happening C) (serial : ℕ) (keys : KeyRecord) (c : IsEstablishedAsResponder prover end serial keys) → slice_get hs by ≡ Some prover → AskedBy (other_end end) by c.opened (gateway_at end prover.before).machine.config.peer.identity
     asked_of end by prover serial keys c there =
         let t = step_of by prover there in
         let e = prover.event.end in
@@ -398,12 +398,19 @@ module _ {C : Type 0} (laws : PartnerLaws) (meaning_of : C → Meaning) where
               let k = asked_by asker by p.by p.prover octets_so p.earlier p.there i in
               let tells = tells_of asker by i.serial i.request i.told k in
               let own = (gateway_at asker p.prover.before).machine.config.own.identity in
-              let same = proved_tells asked_for.message tells.says.message opened.request opened.keys.nonce_r opened.keys.sk_pi (rest_of_id peer.kind peer.data) i.request i.told.keys.nonce_r i.told.keys.sk_pi (rest_of_id own.kind own.data) asked_for.spelled tells.says.spelled i.proved in
-              record { serial = i.serial; request = i.request; told = i.told; asked = k; request_is = same.firsts; peer = peer; own = own; macs = sym same.macs }
+              let same = laws.parts asked_for.message tells.says.message opened.request opened.keys.nonce_r opened.keys.sk_pi (rest_of_id peer.kind peer.data) i.request i.told.keys.nonce_r i.told.keys.sk_pi (rest_of_id own.kind own.data) asked_for.spelled tells.says.spelled i.proved in
+              record {
+                serial = i.serial;
+                request = i.request;
+                told = i.told;
+                asked = k;
+                request_is = same.firsts;
+                macs = sym same.macs ∙ ap (λ (x : End). mac_of opened.keys (gateway_at x prover.before).machine.config.peer.identity) c.at;
+              }
           | inr q ↦
               let made = made_by asker p.by p.prover octets_so q in
               let own = (gateway_at asker p.prover.before).machine.config.own.identity in
-              let same = proved_tells asked_for.message made.says.message opened.request opened.keys.nonce_r opened.keys.sk_pi (rest_of_id peer.kind peer.data) q.response q.opened.keys.nonce_i q.opened.keys.sk_pr (rest_of_id own.kind own.data) asked_for.spelled made.says.spelled q.proved in
+              let same = laws.parts asked_for.message made.says.message opened.request opened.keys.nonce_r opened.keys.sk_pi (rest_of_id peer.kind peer.data) q.response q.opened.keys.nonce_i q.opened.keys.sk_pr (rest_of_id own.kind own.data) asked_for.spelled made.says.spelled q.proved in
               absurd (response_not made.says.message asked_for.message
               (sym (laws.one_message asked_for.message made.says.message q.response (subst (λ (o : Octets). Spells asked_for.message o) same.firsts asked_for.spelled) made.says.spelled)) made.responds asks)
         ]
@@ -436,7 +443,7 @@ module _ {C : Type 0} (laws : PartnerLaws) (meaning_of : C → Meaning) where
           let a = asked_of end place h serial keys c there in
           let k = a.asked in
           let same : a.told.keys ≡ c.opened.keys =
-          alike.each k.place place k.h h (other_end end) end a.serial serial a.told.keys c.opened.keys a.own a.peer k.there there
+          alike.each k.place place k.h h (other_end end) end a.serial serial a.told.keys c.opened.keys k.there there
           (record { association = k.reads.is; there = k.reads.there; keyed = ap keys_in k.tells })
           (record { association = c.was; there = c.stood; keyed = ap keys_in c.waited }) a.macs in
           record {
@@ -507,8 +514,8 @@ module _ {C : Type 0} (laws : PartnerLaws) (meaning_of : C → Meaning) where
         opened_is : pr.opened ≡ made.opened
         opened_is = opened_still (other_end end) responds.by responds.prover responds.octets pr responds.there
 
-        asker : AskedBy end responds.by pr.opened
-        asker = subst (λ (e : End). AskedBy e responds.by pr.opened) (other_twice end) (asked_of (other_end end) responds.by responds.prover pr.serial pr.opened.keys (record {
+        asker : AskedBy end responds.by pr.opened (gateway_at (other_end end) responds.prover.before).machine.config.peer.identity
+        asker = subst (λ (e : End). AskedBy e responds.by pr.opened (gateway_at (other_end end) responds.prover.before).machine.config.peer.identity) (other_twice end) (asked_of (other_end end) responds.by responds.prover pr.serial pr.opened.keys (record {
           at = pr.at;
           was = pr.was;
           stood = pr.stood;

@@ -130,6 +130,10 @@ pub record HasPartner {C : Type 0} (happenings : List (Happening C)) (place : �
 
 -- ---- the partner of a responder
 
+-- what an initiator proves of its identity (RestOfInitIDPayload) and of the keys
+abbrev pub mac_of : KeyRecord → Identity → Octets
+mac_of keys identity = hmac_sha256 keys.sk_pi (rest_of_id identity.kind identity.data)
+
 -- With this step an IKE SA of an end is established, which was half-open before it.
 pub record IsEstablishedAsResponder {C : Type 0} (h : Happening C) (end : End) (serial : ℕ) (keys : KeyRecord) : Type 0 where
   pub at : h.event.end ≡ end
@@ -142,14 +146,15 @@ pub record IsEstablishedAsResponder {C : Type 0} (h : Happening C) (end : End) (
   pub established : is.phase ≡ phase.Established keys
 
 -- No two records of keys prove alike. Where an end holds an IKE SA under one after a step, and an end one under
--- another before a step, prf (SK_pi, RestOfInitIDPayload) is another, of whatever identities (section 2.15).
+-- another before a step, prf (SK_pi, RestOfInitIDPayload) is another, of the one's own identity and of the identity
+-- that the other has configured for its peer (section 2.15).
 pub record NoTwoRecordsProveAlike {C : Type 0} (happenings : List (Happening C)) : Type 0 where
-  pub each : (place other : ℕ) (h g : Happening C) (end another : End) (serial number : ℕ) (one two : KeyRecord) (own peer : Identity)
+  pub each : (place other : ℕ) (h g : Happening C) (end another : End) (serial number : ℕ) (one two : KeyRecord)
       → slice_get happenings place ≡ Some h
       → slice_get happenings other ≡ Some g
       → HoldsWith h.after end serial one
       → HoldsWith g.before another number two
-      → hmac_sha256 one.sk_pi (rest_of_id own.kind own.data) ≡ hmac_sha256 two.sk_pi (rest_of_id peer.kind peer.data)
+      → mac_of one (gateway_at end h.before).machine.config.own.identity ≡ mac_of two (gateway_at another g.before).machine.config.peer.identity
       → one ≡ two
 
 -- A partner of a responder is the other end's IKE SA with this serial. That one sent the very request of

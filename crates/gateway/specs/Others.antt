@@ -7,7 +7,7 @@ use Rattle.wire.specs.declared.message.Message.{Message}
 use Rattle.suite.specs.declared.fresh.Fresh.{Fresh}
 use Rattle.sa_init.specs.Cookies.{CookieSecrets}
 use Rattle.sa_init.specs.Judging.{ASSOCIATION_LIMIT, BringsRightCookie, COOKIE_THRESHOLD, HALF_OPEN_LIMIT}
-use Rattle.sa_init.specs.Parts.{PartsView}
+use Rattle.sa_init.specs.Parts.{HasParts, PartsView}
 use Rattle.sadb.specs.Database.{pair_at, Database}
 use Rattle.sadb.specs.declared.pair.Pair.{Pair}
 use Rattle.association.specs.Finding.{has_pair}
@@ -73,7 +73,7 @@ HaveNotTheSpi strange held spi = (place : ℕ) (a : Association) → At held pla
 abbrev pub IsHeardEitherWay : CookieSecrets → Held → Octets → Message → Type 0
 IsHeardEitherWay cookies held from m =
     (half_open_count held.associations < COOKIE_THRESHOLD)
-    ⊎ ((half_open_count held.associations < HALF_OPEN_LIMIT) × ((parts : PartsView) → BringsRightCookie cookies (sender_of from m.header) m.payloads parts.nonce))
+    ⊎ ((half_open_count held.associations < HALF_OPEN_LIMIT) × ((parts : PartsView) → HasParts m.payloads parts → BringsRightCookie cookies (sender_of from m.header) m.payloads parts.nonce))
 
 -- there is room for one more IKE SA, and a serial
 pub record HasRoom (held : Held) : Type 0 where

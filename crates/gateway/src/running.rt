@@ -61,8 +61,8 @@ use suite::{Agreement, Proof, Sealer};
 /// - An input that is refused on allocation failure counts as lost.
 /// - One list has one result. What is strange, refused or without effect for another reason can be left out
 ///   of it: all else is answered the same, and the gateway holds the same afterwards, unless memory runs out.
-/// - So can strangers' requests for an IKE SA, up to the serials of IKE SAs, as long as no limit is reached and
-///   what stays has nothing to do with what they began (`beside`;
+/// - So can strangers' requests for an IKE SA, up to the serials of IKE SAs, as long as no limit is reached,
+///   what stays has nothing to do with what they began, and they go no further (`beside`;
 ///   [`strangers_can_be_left_out`](crate::laws::strangers_can_be_left_out) says it whole).
 pub fn run<'a, C: Sealer + Agreement + Proof>(
     alloc: Global,

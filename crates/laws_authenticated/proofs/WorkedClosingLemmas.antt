@@ -121,7 +121,7 @@ counted_in_time = in_time_if counted refl (omega arith) (λ n r is. absurd (none
 probed_in_time : IsInTime 0 probed
 probed_in_time = in_time_if probed refl (omega arith) (λ n r is. absurd (none_found map.empty refl n r is))
 
-nothing_told : (fresh : Fresh) → TellsLengths run_meaning.body_of fresh.seal
+pub nothing_told : (fresh : Fresh) → TellsLengths run_meaning.body_of fresh.seal
 nothing_told fresh = record { told = λ keys whole. record { told = λ head other plain one two octets. refl } }
 
 -- the datagrams of the run that is gone on with

@@ -257,7 +257,7 @@ module _ {C : Type 0} (a b : C) where
 
   apart : NoTwoRecordsProveAlike steps
   apart = record {
-    each = λ place other h g end another serial number one two own peer there there_too holds held same.
+    each = λ place other h g end another serial number one two there there_too holds held same.
         held_alike h.after (placed_at AreAlike steps all_alike place h there).1 end serial one holds
         ∙ sym (held_alike g.before (placed_at AreAlike steps all_alike other g there_too).0 another number two held);
   }

@@ -219,9 +219,12 @@ pub fn a_stranger_is_left_out_from_new_gateways_on<C>()
     soundness_stays();
 }
 
-/// The premises of [`an_established_initiator_has_a_partner`], [`an_established_responder_has_a_partner`] and
-/// [`a_partner_is_the_only_one`] are met, by a run of two new gateways that set up an IKE SA with its first
-/// Child SA (RFC 7296, section 1.2). Every datagram comes once, as it was sent.
+/// The premises of
+/// [`an_established_initiator_has_a_partner`](gateway::laws::an_established_initiator_has_a_partner),
+/// [`an_established_responder_has_a_partner`](gateway::laws::an_established_responder_has_a_partner) and
+/// [`a_partner_is_the_only_one`](gateway::laws::a_partner_is_the_only_one) are met, by a run of two new gateways
+/// that set up an IKE SA with its first Child SA (RFC 7296, section 1.2). Every datagram comes once, as it was
+/// sent.
 ///
 /// No proof is forged in it. Each end accepts a proof of the other one, over octets that this one had proved
 /// before, so that premise asks something at either end. No nonce is drawn twice, since no end begins or makes a
@@ -238,12 +241,14 @@ pub fn the_premises_of_a_partner_are_met<C>()
     soundness_stays();
 }
 
-/// All that [`strangers_can_be_left_out`] asks of two runs is met by two of a new gateway. In the first one it
-/// answers a request for an IKE SA, and then begins one of its own, whose serial is 2. In the second one there
-/// is no such request, and the serial is 1.
+/// All that [`strangers_can_be_left_out`](gateway::laws::strangers_can_be_left_out) asks of two runs is met by two
+/// of a new gateway. In the first one it answers a stranger's request for an IKE SA and drops an ESP packet. Then
+/// it drops a datagram for an IKE SA that there isn't, and begins one of its own, whose serial is 2. In the second
+/// one the first two don't come, and the serial is 1.
 pub fn a_request_is_left_out_from_new_gateways_on<C>()
     ensures { (caller : C) → LeavesARequestOut caller }
 {
     no_spi_is_lost();
+    octets_spell_one_message();
     soundness_stays();
 }

@@ -14,15 +14,13 @@
 //!   [`laws::a_stranger_is_left_out_from_new_gateways_on`]: of two new gateways that set up an IKE SA with a
 //!   Child SA, one stays as it was where a stranger asks to delete that IKE SA, and closes it where the peer
 //!   does, with the stranger or without. The SA pair goes with it.
-//! - [`laws::an_established_initiator_has_a_partner`]: who is established as initiator agrees with the other end
-//!   on what both sent and on their keys, where no proof is forged and no nonce is drawn twice.
-//! - [`laws::an_established_responder_has_a_partner`]: who is established as responder was asked by the other end
-//!   under the same keys, where no proof is forged and no two records of keys prove alike.
-//! - [`laws::a_partner_is_the_only_one`]: neither has a second one. A worked run of two new gateways
-//!   [meets these premises](laws::the_premises_of_a_partner_are_met).
+//! - [`laws::a_request_is_left_out_from_new_gateways_on`]: a gateway that answers a stranger's request for an IKE
+//!   SA, and one that gets none, go on alike.
+//! - [`laws::the_premises_of_a_partner_are_met`]: a worked run of two new gateways, where each end that is
+//!   established has its partner at the other.
 //!
 //! What the first four say of a list `gateway::run` promises, and their lemmas stand in [`gateway`], as those
-//! on strangers do.
+//! on strangers and on partners do.
 //!
 //! # How it is proved
 //!

@@ -43,9 +43,13 @@ use sadb::laws::later_tables_are_determined;
 /// - No input that stays is refused for want of memory, in either run.
 ///
 /// That each SA pair is of an established IKE SA holds of every gateway
-/// ([`Gateway::invariants_hold`](crate::Gateway::invariants_hold)). A forged answer to this end's own
-/// IKE_SA_INIT request is not left out here: it changes the one IKE SA that waits for it
-/// ([`strangers_change_nothing`], `answer`).
+/// ([`Gateway::invariants_hold`](crate::Gateway::invariants_hold)).
+///
+/// Two kinds of input are neither left out nor may stay. A forged answer to this end's own IKE_SA_INIT request
+/// changes the one IKE SA that waits for it ([`strangers_change_nothing`], `answer`). And whoever began an IKE SA
+/// has its keys: its IKE_AUTH request opens under them, and ends that IKE SA where the proof fails. So the
+/// comparison goes up to such an input. Of packets alone
+/// [`packets_go_as_without_strangers`](crate::laws::packets_go_as_without_strangers) says more.
 pub fn strangers_can_be_left_out<C>()
     ensures begun { (old other : State C)
         → state_content old ≡ state_content other

@@ -18,6 +18,7 @@ use ike::laws::{
     the_established_proved_themselves, traces_name_what_is_held, who_asks_has_read,
     who_is_half_open_was_so, who_waits_keeps_its_offer,
 };
+use proved_octets::laws::what_is_proved_tells_its_parts;
 use suite::{Agreement, Proof, Sealer};
 use wire::laws::octets_spell_one_message;
 
@@ -58,6 +59,7 @@ pub fn an_established_initiator_has_a_partner<C: Sealer + Agreement + Proof>()
     soundness_stays();
     the_established_proved_themselves();
     traces_name_what_is_held();
+    what_is_proved_tells_its_parts();
     who_asks_has_read();
     who_is_half_open_was_so();
     who_waits_keeps_its_offer();
@@ -98,6 +100,7 @@ pub fn an_established_responder_has_a_partner<C: Sealer + Agreement + Proof>()
     soundness_stays();
     the_established_proved_themselves();
     traces_name_what_is_held();
+    what_is_proved_tells_its_parts();
     who_asks_has_read();
     who_is_half_open_was_so();
     who_waits_keeps_its_offer();
@@ -141,6 +144,7 @@ pub fn a_partner_is_the_only_one<C: Sealer + Agreement + Proof>()
     soundness_stays();
     the_established_proved_themselves();
     traces_name_what_is_held();
+    what_is_proved_tells_its_parts();
     who_asks_has_read();
     who_is_half_open_was_so();
     who_waits_keeps_its_offer();

@@ -4,4 +4,4 @@ use Rattle.laws_authenticated.proofs.laws.a_request_is_left_out_from_new_gateway
 use Rattle.gateway.specs.Beside.{itself}
 
 pub returns : goal.returns
-returns g c = λ caller. left_out caller c.soundness_stays.ensures c.no_spi_is_lost.ensures.stepped (pair_laws itself)
+returns g c = λ caller. left_out caller c.soundness_stays.ensures c.no_spi_is_lost.ensures.stepped c.octets_spell_one_message.ensures.message (pair_laws itself)

@@ -34,6 +34,7 @@ returns-clause-initiator g c =
       half = c.who_is_half_open_was_so.ensures;
       proved = c.the_established_proved_themselves.ensures;
       one_message = c.octets_spell_one_message.ensures.message;
+      parts = c.what_is_proved_tells_its_parts.ensures;
     } in
     λ hs old new trail apart place other end serial another keys one two.
     one_partner laws meant g.C.Agreement.public_value (λ caller. refl) hs old new trail (λ caller answerer. c.both_ends_make_one_record.ensures (asker_of (meant caller)) (meant answerer).cipher (meant answerer).group)
@@ -68,6 +69,7 @@ returns-clause-responder g c =
       half = c.who_is_half_open_was_so.ensures;
       proved = c.the_established_proved_themselves.ensures;
       one_message = c.octets_spell_one_message.ensures.message;
+      parts = c.what_is_proved_tells_its_parts.ensures;
     } in
     λ hs old new trail begins once place other end opened another keys one two.
     one_asker laws meant hs old new trail begins once place other end opened another keys one two

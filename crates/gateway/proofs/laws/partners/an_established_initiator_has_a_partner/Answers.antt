@@ -34,6 +34,7 @@ returns g c =
       half = c.who_is_half_open_was_so.ensures;
       proved = c.the_established_proved_themselves.ensures;
       one_message = c.octets_spell_one_message.ensures.message;
+      parts = c.what_is_proved_tells_its_parts.ensures;
     } in
     λ hs old new trail begins unforged drawn place serial h end keys there established.
     partner_of laws meant g.C.Agreement.public_value (λ caller. refl) hs old new trail begins unforged (each_is_of_one laws meant hs old new trail begins drawn)

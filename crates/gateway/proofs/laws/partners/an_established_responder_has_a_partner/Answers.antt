@@ -33,6 +33,7 @@ returns g c =
       half = c.who_is_half_open_was_so.ensures;
       proved = c.the_established_proved_themselves.ensures;
       one_message = c.octets_spell_one_message.ensures.message;
+      parts = c.what_is_proved_tells_its_parts.ensures;
     } in
     λ hs old new trail begins unforged alike place serial h end keys there established.
     has_asker laws meant g.C.Agreement.public_value (λ caller. refl) hs old new trail begins unforged place h there end serial keys established alike

@@ -8,6 +8,7 @@ use Rattle.mac.specs.Hmac.{hmac_sha256}
 use Rattle.mac.proofs.HmacLemmas.{length-hmac_sha256}
 use Rattle.wire.specs.Messages.{Spells}
 use Rattle.wire.specs.declared.message.Message.{Message}
+use Rattle.proved_octets.specs.Parts.{HaveTheSameParts}
 
 -- a message's own length stands in it
 header_long : (m : Message) (b : Octets) (s : Spells m b) → length s.header ≡ 24
@@ -46,13 +47,8 @@ same_message m n one other rest left s t same =
       behind = sym (drop_at one rest (length one) refl) ∙ ap (drop (length one)) same ∙ ap (λ (k : ℕ). drop k (other ++ left)) long ∙ drop_at other left (length other) refl;
     }
 
-pub record Proves (first nonce sk_p text other another key content : Octets) : Type 0 where
-  pub firsts : first ≡ other
-  pub nonces : nonce ≡ another
-  pub macs : hmac_sha256 sk_p text ≡ hmac_sha256 key content
-
 pub proved_tells : (m n : Message) (first nonce sk_p text other another key content : Octets) → Spells m first → Spells n other
-    → first ++ nonce ++ hmac_sha256 sk_p text ≡ other ++ another ++ hmac_sha256 key content → Proves first nonce sk_p text other another key content
+    → first ++ nonce ++ hmac_sha256 sk_p text ≡ other ++ another ++ hmac_sha256 key content → HaveTheSameParts first nonce sk_p text other another key content
 proved_tells m n first nonce sk_p text other another key content s t same =
     let front = same_message m n first other (nonce ++ hmac_sha256 sk_p text) (another ++ hmac_sha256 key content) s t (sym (append_assoc first nonce (hmac_sha256 sk_p text)) ∙ same ∙ append_assoc other another (hmac_sha256 key content)) in
     let lengths = sym (length-append nonce (hmac_sha256 sk_p text)) ∙ ap length front.behind ∙ length-append another (hmac_sha256 key content) in

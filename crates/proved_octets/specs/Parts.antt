@@ -1,0 +1,10 @@
+-- The parts of what two ends prove (RFC 7296 section 2.15).
+use Rattle.std.specs.Prelude.{◌≡◌}
+use Rattle.base.specs.Octets.{Octets}
+use Rattle.mac.specs.Hmac.{hmac_sha256}
+
+-- each proves a first message, a nonce, and a MAC under a key of a text, and these are the same
+pub record HaveTheSameParts (first nonce sk_p text other another key content : Octets) : Type 0 where
+  pub firsts : first ≡ other
+  pub nonces : nonce ≡ another
+  pub macs : hmac_sha256 sk_p text ≡ hmac_sha256 key content
