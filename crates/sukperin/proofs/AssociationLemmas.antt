@@ -57,5 +57,7 @@ opens_at old new b payload n next told same h =
     let e = c.eight in
     record {
       within = omega arith;
+      behind_head = refl;
+      reserved = refl;
       hands_up = subst (λ (k : ℕ). HandsUp old b n k (take (length payload) (drop 8 b)) new) (sym same) (subst (λ (xs : List ℕ). HandsUp old b n next xs new) part h);
     }

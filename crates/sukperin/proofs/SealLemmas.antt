@@ -183,7 +183,7 @@ refused_at octets room place begin gateway sent after told why begins (inl away)
     inr (inl (away.0, record { told_is = told_is ∙ ap refused_alone away.1; unchanged = unchanged }))
 refused_at octets room place begin gateway sent after told why begins (inr short) told_is unchanged =
     let less : HasRoomBehind (packet_at octets place) sent room → ⊥ = λ h. short.1 (omega arith) in
-    inr (inr (inl (short.0, less, record { told_is = told_is ∙ ap refused_alone short.2; unchanged = unchanged })))
+    inr (inr (short.0, less, record { told_is = told_is ∙ ap refused_alone short.2; unchanged = unchanged }))
 
 -- one is refused, so nothing is laid
 pub lays_refused : (octets : Octets) (room : ℕ) (place : SukPlace) (used begin : ℕ) (old : State PeerCaller) (buffer : Octets) (told : SukOutput) (span : Span) (why : Refusal)

@@ -70,6 +70,9 @@ IsSealingRefusal _ payload room code = code ≡ 101
 pub record OpensAt (old : Receiving) (packet : List ℕ) (new : Receiving) (told : SukOpened) : Type 0 where
   pub within : told.offset + told.length ≤ length packet
   pub hands_up : HandsUp old packet told.number told.next (take told.length (drop told.offset packet)) new
+  -- the payload stands behind SPI and sequence number
+  pub behind_head : told.offset ≡ 8
+  pub reserved : told.reserved ≡ 0
 
 -- why it was not opened: it is for another SA, or as the SA says
 abbrev pub IsOpeningRefusalAt : Receiving → List ℕ → refused.Refusal → Receiving → Type 0

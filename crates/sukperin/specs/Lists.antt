@@ -28,7 +28,7 @@ use Rattle.sukperin.specs.declared.hosted.Left.TheVariants as left
 use Rattle.sukperin.specs.declared.lists.SukPlace.{SukPlace}
 use Rattle.sukperin.specs.declared.output.SukOutput.{SukOutput}
 use Rattle.sukperin.specs.declared.refusal.Refusal.{Refusal}
-use Rattle.sukperin.specs.declared.refusal.Refusal.TheVariants.{Memory, Place, ShortRoom}
+use Rattle.sukperin.specs.declared.refusal.Refusal.TheVariants.{Place, ShortRoom}
 
 -- the place lies in the buffer
 abbrev pub LiesIn : Octets → SukPlace → Type 0
@@ -78,11 +78,13 @@ TakesEspAt octets place old told new =
     (LiesIn octets place × TakesEsp (packet_at octets place) old told new)
     ⊎ ((¬ LiesIn octets place) × IsRefusedAlone Place old told new)
 
--- The ESP packets are taken in order. Nothing is left to be taken then.
+-- The ESP packets are taken in order. Nothing is left to be taken then, and what the handle keeps for lists on
+-- their way out stays.
 pub record TakesEspList (octets : Octets) (places : List SukPlace) (old new : Hosted) (before after : List SukOutput) : Type 0 where
   pub runs : RunsOver (TakesEspAt octets) places old.gateway before new.gateway after
   pub left_is : new.left ≡ left.Nothing
   pub tells_keys : new.tells_keys ≡ old.tells_keys
+  pub buffer : new.buffer ≡ old.buffer
 
 -- The gateway takes them. Or nothing changes, since there are fewer records than places.
 abbrev pub OpensBy : Octets → List SukPlace → Hosted → ℕ → Hosted → List SukOutput → List SukOutput → Type 0
@@ -121,14 +123,13 @@ pub record TakesOut (packet : Octets) (old : Sent) (told : SukOutput) (new : Sen
 abbrev pub HasRoomBehind : Octets → Octets → ℕ → Type 0
 HasRoomBehind packet before room = length before + (length packet + 29) ≤ room
 
--- The packet at a place is taken. Or it is refused alone: the place doesn't lie in the buffer, the room that
--- is left may be too short, or there is no memory for it.
+-- The packet at a place is taken, where a step may be refused for want of memory. Or it is refused alone: the
+-- place doesn't lie in the buffer, or the room that is left may be too short.
 abbrev pub TakesOutAt : Octets → ℕ → SukPlace → Sent → SukOutput → Sent → Type 0
 TakesOutAt octets room place old told new =
     (LiesIn octets place × HasRoomBehind (packet_at octets place) old.octets room × TakesOut (packet_at octets place) old told new)
     ⊎ (((¬ LiesIn octets place) × IsRefusedAlone Place old told new)
-    ⊎ ((LiesIn octets place × (¬ HasRoomBehind (packet_at octets place) old.octets room) × IsRefusedAlone ShortRoom old told new)
-    ⊎ IsRefusedAlone Memory old told new))
+    ⊎ (LiesIn octets place × (¬ HasRoomBehind (packet_at octets place) old.octets room) × IsRefusedAlone ShortRoom old told new))
 
 -- The packets are taken in order. Their ESP packets stand in the room from its beginning on, one behind the
 -- other; behind them stands what stood there.
@@ -138,11 +139,12 @@ pub record TakesOutOver (octets : Octets) (places : List SukPlace) (old : State 
   pub fits : length sent ≤ length room
   pub filled_is : filled ≡ filled_with sent room
 
--- Nothing is left to be taken then.
+-- Nothing is left to be taken then, and no octets of a packet are kept.
 pub record TakesOutList (octets : Octets) (places : List SukPlace) (old new : Hosted) (before after : List SukOutput) (room filled : Octets) : Type 0 where
   pub takes : TakesOutOver octets places old.gateway before room new.gateway after filled
   pub left_is : new.left ≡ left.Nothing
   pub tells_keys : new.tells_keys ≡ old.tells_keys
+  pub buffer : new.buffer ≡ []
 
 -- The gateway takes them. Or nothing changes, since there are fewer records than places.
 abbrev pub SealsBy : Octets → List SukPlace → Hosted → ℕ → Hosted → List SukOutput → List SukOutput → Octets → Octets → Type 0
