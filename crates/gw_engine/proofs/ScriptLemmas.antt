@@ -1,11 +1,11 @@
 -- A script's lines are played, whatever its machine is.
-use Rattle.std.proofs.Common.{◌≡◌, ◌∷◌, ℕ, List, [], Option, Result, Ok, Err, refl}
-use Rattle.std.specs.Prelude.{⊤}
+use Rattle.std.proofs.Common.{◌∷◌, ℕ, List, [], Option, Result, Ok, Err, refl}
 use Rattle.gw_console.specs.Status.{exit_code}
 use Rattle.gw_console.specs.declared.status.Status.{Status}
 use Rattle.gw_script.specs.declared.fault.LineFault.{LineFault}
+use Rattle.gw_script.specs.declared.kind.Kind.{Kind}
 use Rattle.gw_script.specs.declared.lines.Line.{Line}
-use Rattle.gw_engine.specs.Printing.{refuses_anything, says_anything, EndsBy, Plays, PlaysItsLines, SaysInTurn}
+use Rattle.gw_engine.specs.Printing.{refuses_anything, says_anything, EndsBy, IsScript, Plays, PlaysItsLines, SaysInTurn}
 use Rattle.gw_engine.specs.declared.stop.Stop.{Stop}
 use Rattle.gw_engine.specs.declared.stop.Stop.TheVariants as stop
 
@@ -27,12 +27,14 @@ module _ {M : Type 0} (says : M → List ℕ → List ℕ → M → Type 0) (ref
   ends_by lines texts last behind (Err (stop.Message number)) old printed is = absurd is
   ends_by lines texts last behind (Err (stop.Payload number offset)) old printed is = absurd is
 
-  pub played : (machine behind : M) (lines : List Line) (status : Status) (old new : Option (List ℕ))
-      → Plays says refuses machine behind lines status old new → PlaysItsLines (exit_code status) old new
-  played machine behind lines status old new is =
+  pub played : (file : Option (List ℕ)) (kind : Kind) (machine behind : M) (lines : List Line) (status : Status) (old new : Option (List ℕ))
+      → IsScript file kind lines → Plays says refuses machine behind lines status old new → PlaysItsLines file (exit_code status) old new
+  played file kind machine behind lines status old new script is =
       let p = is.prints in
       record {
+        kind = kind;
         lines = lines;
+        script = script;
         status = status;
         code_is = refl;
         plays = record {

@@ -1,9 +1,13 @@
 -- What goes out while a script is played, and how that ends.
-use Rattle.std.specs.Prelude.{◌≡◌, ◌⊎◌, ◌≤◌, ⊤, ℕ, List, [], ◌∷◌, ◌++◌, length, slice_get, Option, Some, Result, Ok, Err}
+use Rattle.std.specs.Prelude.{◌≡◌, ◌⊎◌, ◌≤◌, ⊤, ℕ, List, [], ◌∷◌, ◌++◌, length, map, slice_get, Option, Some, Result, Ok, Err}
 use Rattle.std.specs.Io.KnownBytes.{Appends}
 use Rattle.gw_script.specs.declared.fault.LineFault.{LineFault}
 use Rattle.gw_script.specs.declared.fault.LineFault.TheVariants as fault
+use Rattle.gw_script.specs.declared.kind.Kind.{Kind}
 use Rattle.gw_script.specs.declared.lines.Line.{Line}
+use Rattle.gw_script.specs.Kinds.{word_of}
+use Rattle.gw_script.specs.Lines.{directives_of, first_of, lines_of, told_by}
+use Rattle.gw_console.specs.Input.{IsWholeFile}
 use Rattle.gw_console.specs.Status.{exit_code}
 use Rattle.gw_console.specs.declared.status.Status.{Status}
 use Rattle.gw_engine.specs.Ends.{status_of, EndsWith}
@@ -79,19 +83,45 @@ says_anything machine line text next = ⊤
 abbrev pub refuses_anything : ⊤ → List ℕ → LineFault → ⊤ → Type 0
 refuses_anything machine line why next = ⊤
 
--- A script is played, line by line, whatever its machine says: all that it says goes out in turn, or a beginning
--- of that, as `Plays` has it.
-pub record PlaysItsLines (code : ℕ) (old new : Option (List ℕ)) : Type 0 where
+-- The file is a script of this kind, and these lines are its directives, in their order.
+pub record IsScript (file : Option (List ℕ)) (kind : Kind) (lines : List Line) : Type 0 where
+  pub script : List ℕ
+  pub whole : IsWholeFile file script
+  pub named : first_of (lines_of script) ≡ word_of kind
+  pub lines_are : map told_by lines ≡ directives_of script
+
+-- The script in the file is played, each directive in its turn, whatever its machine says: all that it says goes
+-- out in turn, or a beginning of that, as `Plays` has it.
+pub record PlaysItsLines (file : Option (List ℕ)) (code : ℕ) (old new : Option (List ℕ)) : Type 0 where
+  pub kind : Kind
   pub lines : List Line
+  pub script : IsScript file kind lines
   pub status : Status
   pub code_is : code ≡ exit_code status
   pub plays : Plays says_anything refuses_anything tt tt lines status old new
 
--- It stops before a line is played, and the line that tells why goes out, or a beginning of that.
-pub record StopsUnplayed (code : ℕ) (old new : Option (List ℕ)) : Type 0 where
+-- its first line names no kind of script
+pub record NamesNoKind (file : Option (List ℕ)) : Type 0 where
+  pub script : List ℕ
+  pub whole : IsWholeFile file script
+  pub unnamed : (kind : Kind) → ¬ (first_of (lines_of script) ≡ word_of kind)
+
+-- why nothing of a file is played: it is not read, or there is no memory, or its first line names no kind
+abbrev pub IsNoScript : Option (List ℕ) → Stop → Type 0
+IsNoScript file stop.File = ⊤
+IsNoScript file stop.Memory = ⊤
+IsNoScript file (stop.Line number) = NamesNoKind file × (number ≡ 1)
+IsNoScript file stop.Output = ⊥
+IsNoScript file stop.Hex = ⊥
+IsNoScript file (stop.Message number) = ⊥
+IsNoScript file (stop.Payload number offset) = ⊥
+
+-- Nothing is played, and the line that tells why goes out, or a beginning of that.
+pub record StopsUnplayed (file : Option (List ℕ)) (code : ℕ) (old new : Option (List ℕ)) : Type 0 where
   pub why : Stop
+  pub because : IsNoScript file why
   pub code_is : code ≡ exit_code (status_of (Err why))
   pub ends : EndsWith (Err why) old new
 
-abbrev pub PlaysScript : ℕ → Option (List ℕ) → Option (List ℕ) → Type 0
-PlaysScript code old new = PlaysItsLines code old new ⊎ StopsUnplayed code old new
+abbrev pub PlaysScript : Option (List ℕ) → ℕ → Option (List ℕ) → Option (List ℕ) → Type 0
+PlaysScript file code old new = PlaysItsLines file code old new ⊎ StopsUnplayed file code old new

@@ -2,7 +2,7 @@
 ghost use Rattle.std.specs.Prelude.{◌≡◌, ◌≤◌, IfErr, IfOk};
 ghost use Rattle.gw_console.specs.Status.{exit_code};
 ghost use Rattle.gw_engine.specs.Ends.{stop_of_line};
-ghost use Rattle.gw_engine.specs.Printing.{Plays, PlaysScript, Prints};
+ghost use Rattle.gw_engine.specs.Printing.{IsNoScript, Plays, PlaysItsLines, PlaysScript, Prints};
 
 use crate::stop::{Stop, end};
 use gw_console::{Status, read_whole, write_whole};
@@ -17,7 +17,8 @@ use std::io::{Read, Write};
 /// refused`, an allocation failure `no memory`, and nothing is played after either. The status is then 1,
 /// as it is where a write fails, after which nothing more is printed; else it is 0.
 pub fn play<R: Read, W: Write>(alloc: Global, reader: &mut R, writer: &mut W) -> u8
-    ensures plays { PlaysScript result (W.contents writer.old) (W.contents writer.new) }
+    ensures plays { PlaysScript (R.remaining reader.old) result
+        (W.contents writer.old) (W.contents writer.new) }
     ensures code { result ≤ 1 }
 {
     match play_script(alloc, reader, writer) {
@@ -32,7 +33,9 @@ fn play_script<R: Read, W: Write>(
     writer: &mut W,
 ) -> Result<Status, Stop>
     ensures plays { IfOk result
-        (λ status. PlaysScript (exit_code status) (W.contents writer.old) (W.contents writer.new)) }
+        (λ status. PlaysItsLines (R.remaining reader.old) (exit_code status)
+        (W.contents writer.old) (W.contents writer.new)) }
+    ensures because { IfErr result (λ why. IsNoScript (R.remaining reader.old) why) }
     ensures code { IfOk result (λ status. exit_code status ≤ 1) }
     ensures unwritten { IfErr result (λ _. writer.new ≡ writer.old) }
 {

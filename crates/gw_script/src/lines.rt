@@ -1,4 +1,6 @@
 //! The lines of a script.
+ghost use Rattle.std.specs.Prelude.{◌≡◌, ◌==◌, IfOk, map};
+ghost use Rattle.gw_script.specs.Lines.{directives_of, first_of, is_directive, lines_of, told_by};
 
 use std::alloc::{AllocError, Global};
 
@@ -12,30 +14,38 @@ pub struct Line<'a> {
 }
 
 /// The first line, which an empty script has too.
-pub fn first_line(script: &[u8]) -> &[u8] {
+pub fn first_line(script: &[u8]) -> &[u8]
+    ensures { result.now ≡ first_of (lines_of script.now) }
+{
     script.split(is_line_end).next().unwrap_or(&[])
 }
 
 /// The directives behind the first line, in their order: each other line but empty ones and comments. An
 /// error is an allocation failure alone.
-pub fn directives(alloc: Global, script: &[u8]) -> Result<Vec<Line<'_>>, AllocError> {
-    let mut lines = Vec::new(alloc);
-    for (index, text) in script.split(is_line_end).enumerate().skip(1) {
-        if is_directive(text) {
-            lines.push(Line {
-                number: index + 1,
-                text,
-            })?;
-        }
-    }
-    Ok(lines)
+pub fn directives(alloc: Global, script: &[u8]) -> Result<Vec<Line<'_>>, AllocError>
+    ensures { IfOk result (λ lines. map told_by lines.items ≡ directives_of script.now) }
+{
+    script
+        .split(is_line_end)
+        .enumerate()
+        .skip(1)
+        .filter(|(_, text)| is_directive(text))
+        .map(|(index, text)| Line {
+            number: index + 1,
+            text,
+        })
+        .collect(alloc)
 }
 
 // The last line may lack its end.
-fn is_line_end(octet: &u8) -> bool {
+fn is_line_end(octet: &u8) -> bool
+    ensures { result ≡ (octet.now == 10) }
+{
     *octet == b'\n'
 }
 
-fn is_directive(line: &[u8]) -> bool {
+fn is_directive(line: &[u8]) -> bool
+    ensures { result ≡ is_directive line.now }
+{
     !matches!(line.first(), None | Some(b'#'))
 }

@@ -7,6 +7,7 @@ pub returns-in-Err-clause-plays : goal.returns-in-Err-clause-plays
 returns-in-Err-clause-plays g c =
     inr (record {
       why = c.in-Err.stop;
+      because = c.in-Err.ensures.because;
       code_is = c.code-in-Err.ensures ∙ ap exit_code c.end.ensures.status;
       ends = subst (λ w. EndsWith (Err c.in-Err.stop) (g.W.Write.contents w) (g.W.Write.contents c.end.new.writer)) c.in-Err.ensures.unwritten c.end.ensures.ends;
     })
