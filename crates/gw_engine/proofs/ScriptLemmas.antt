@@ -1,11 +1,10 @@
 -- A script's lines are played, whatever its machine is.
-use Rattle.std.proofs.Common.{◌∷◌, ℕ, List, [], Option, Result, Ok, Err, refl}
-use Rattle.gw_console.specs.Status.{exit_code}
-use Rattle.gw_console.specs.declared.status.Status.{Status}
+use Rattle.std.proofs.Common.{◌∷◌, ℕ, List, [], Option, Result, Ok, Err, inl, inr, refl}
 use Rattle.gw_script.specs.declared.fault.LineFault.{LineFault}
 use Rattle.gw_script.specs.declared.kind.Kind.{Kind}
+use Rattle.gw_script.specs.declared.kind.Kind.TheVariants.{One, Two}
 use Rattle.gw_script.specs.declared.lines.Line.{Line}
-use Rattle.gw_engine.specs.Printing.{refuses_anything, says_anything, EndsBy, IsScript, Plays, PlaysItsLines, SaysInTurn}
+use Rattle.gw_engine.specs.Printing.{refuses_anything, says_anything, EndsBy, PlaysItsLines, PlaysScript, PlaysScriptBy, SaysInTurn}
 use Rattle.gw_engine.specs.declared.stop.Stop.{Stop}
 use Rattle.gw_engine.specs.declared.stop.Stop.TheVariants as stop
 
@@ -27,21 +26,28 @@ module _ {M : Type 0} (says : M → List ℕ → List ℕ → M → Type 0) (ref
   ends_by lines texts last behind (Err (stop.Message number)) old printed is = absurd is
   ends_by lines texts last behind (Err (stop.Payload number offset)) old printed is = absurd is
 
-  pub played : (file : Option (List ℕ)) (kind : Kind) (machine behind : M) (lines : List Line) (status : Status) (old new : Option (List ℕ))
-      → IsScript file kind lines → Plays says refuses machine behind lines status old new → PlaysItsLines file (exit_code status) old new
-  played file kind machine behind lines status old new script is =
-      let p = is.prints in
+  played : (kind : Kind) (file : Option (List ℕ)) (code : ℕ) (machine behind : M) (old new : Option (List ℕ))
+      → PlaysItsLines says refuses machine behind kind file code old new → PlaysItsLines says_anything refuses_anything tt tt kind file code old new
+  played kind file code machine behind old new is =
+      let p = is.plays.prints in
       record {
-        kind = kind;
-        lines = lines;
-        script = script;
-        status = status;
-        code_is = refl;
+        lines = is.lines;
+        script = is.script;
+        status = is.status;
+        code_is = is.code_is;
         plays = record {
-          outcome = is.outcome;
-          printed = is.printed;
-          prints = record { texts = p.texts; last = tt; in_turn = in_turn machine p.last lines p.texts p.in_turn; ends = ends_by lines p.texts p.last behind is.outcome old is.printed p.ends };
-          status_is = is.status_is;
-          ends = is.ends;
+          outcome = is.plays.outcome;
+          printed = is.plays.printed;
+          prints = record { texts = p.texts; last = tt; in_turn = in_turn machine p.last is.lines p.texts p.in_turn; ends = ends_by is.lines p.texts p.last behind is.plays.outcome old is.plays.printed p.ends };
+          status_is = is.plays.status_is;
+          ends = is.plays.ends;
         };
       }
+
+module _ {A B : Type 0} (one_says : A → List ℕ → List ℕ → A → Type 0) (one_refuses : A → List ℕ → LineFault → A → Type 0) (two_says : B → List ℕ → List ℕ → B → Type 0) (two_refuses : B → List ℕ → LineFault → B → Type 0) where
+  -- the same, whatever the machines are
+  pub whatever : (one one_behind : A) (two two_behind : B) (file : Option (List ℕ)) (code : ℕ) (old new : Option (List ℕ))
+      → PlaysScriptBy one_says one_refuses two_says two_refuses one one_behind two two_behind file code old new → PlaysScript file code old new
+  whatever one one_behind two two_behind file code old new (inl (inl is)) = inl (inl (played one_says one_refuses One file code one one_behind old new is.0, refl))
+  whatever one one_behind two two_behind file code old new (inl (inr is)) = inl (inr (played two_says two_refuses Two file code two two_behind old new is.0, refl))
+  whatever one one_behind two two_behind file code old new (inr is) = inr (is.0, refl, refl)

@@ -4,6 +4,7 @@ use Rattle.std.specs.Io.KnownBytes.{Appends}
 use Rattle.gw_script.specs.declared.fault.LineFault.{LineFault}
 use Rattle.gw_script.specs.declared.fault.LineFault.TheVariants as fault
 use Rattle.gw_script.specs.declared.kind.Kind.{Kind}
+use Rattle.gw_script.specs.declared.kind.Kind.TheVariants.{One, Two}
 use Rattle.gw_script.specs.declared.lines.Line.{Line}
 use Rattle.gw_script.specs.Kinds.{word_of}
 use Rattle.gw_script.specs.Lines.{directives_of, first_of, lines_of, told_by}
@@ -76,13 +77,6 @@ pub record Plays {M : Type 0} (says : M → List ℕ → List ℕ → M → Type
   pub status_is : status ≡ status_of outcome
   pub ends : EndsWith outcome printed new
 
--- whatever a machine says or refuses
-abbrev pub says_anything : ⊤ → List ℕ → List ℕ → ⊤ → Type 0
-says_anything machine line text next = ⊤
-
-abbrev pub refuses_anything : ⊤ → List ℕ → LineFault → ⊤ → Type 0
-refuses_anything machine line why next = ⊤
-
 -- The file is a script of this kind, and these lines are its directives, in their order.
 pub record IsScript (file : Option (List ℕ)) (kind : Kind) (lines : List Line) : Type 0 where
   pub script : List ℕ
@@ -90,15 +84,21 @@ pub record IsScript (file : Option (List ℕ)) (kind : Kind) (lines : List Line)
   pub named : first_of (lines_of script) ≡ word_of kind
   pub lines_are : map told_by lines ≡ directives_of script
 
--- The script in the file is played, each directive in its turn, whatever its machine says: all that it says goes
--- out in turn, or a beginning of that, as `Plays` has it.
-pub record PlaysItsLines (file : Option (List ℕ)) (code : ℕ) (old new : Option (List ℕ)) : Type 0 where
-  pub kind : Kind
+-- The script in the file is of this kind, and its machine plays it: all that this says at the directives, in their
+-- order, goes out, or a beginning of that, as `Plays` has it.
+pub record PlaysItsLines {M : Type 0} (says : M → List ℕ → List ℕ → M → Type 0) (refuses : M → List ℕ → LineFault → M → Type 0) (machine behind : M) (kind : Kind) (file : Option (List ℕ)) (code : ℕ) (old new : Option (List ℕ)) : Type 0 where
   pub lines : List Line
   pub script : IsScript file kind lines
   pub status : Status
   pub code_is : code ≡ exit_code status
-  pub plays : Plays says_anything refuses_anything tt tt lines status old new
+  pub plays : Plays says refuses machine behind lines status old new
+
+-- The machine of the script's kind plays it, and the other one stays as it is.
+abbrev pub PlaysBy : {A B : Type 0} → (A → List ℕ → List ℕ → A → Type 0) → (A → List ℕ → LineFault → A → Type 0) → (B → List ℕ → List ℕ → B → Type 0) → (B → List ℕ → LineFault → B → Type 0)
+    → A → A → B → B → Option (List ℕ) → ℕ → Option (List ℕ) → Option (List ℕ) → Type 0
+PlaysBy one_says one_refuses two_says two_refuses one one_behind two two_behind file code old new =
+    (PlaysItsLines one_says one_refuses one one_behind One file code old new × (two_behind ≡ two))
+    ⊎ (PlaysItsLines two_says two_refuses two two_behind Two file code old new × (one_behind ≡ one))
 
 -- its first line names no kind of script
 pub record NamesNoKind (file : Option (List ℕ)) : Type 0 where
@@ -123,5 +123,21 @@ pub record StopsUnplayed (file : Option (List ℕ)) (code : ℕ) (old new : Opti
   pub code_is : code ≡ exit_code (status_of (Err why))
   pub ends : EndsWith (Err why) old new
 
+-- What becomes of the script in the file, by two machines. Where it isn't played both stay as they are.
+abbrev pub PlaysScriptBy : {A B : Type 0} → (A → List ℕ → List ℕ → A → Type 0) → (A → List ℕ → LineFault → A → Type 0) → (B → List ℕ → List ℕ → B → Type 0) → (B → List ℕ → LineFault → B → Type 0)
+    → A → A → B → B → Option (List ℕ) → ℕ → Option (List ℕ) → Option (List ℕ) → Type 0
+PlaysScriptBy one_says one_refuses two_says two_refuses one one_behind two two_behind file code old new =
+    PlaysBy one_says one_refuses two_says two_refuses one one_behind two two_behind file code old new
+    ⊎ (StopsUnplayed file code old new × (one_behind ≡ one) × (two_behind ≡ two))
+
+-- whatever a machine says or refuses
+abbrev pub says_anything : ⊤ → List ℕ → List ℕ → ⊤ → Type 0
+says_anything machine line text next = ⊤
+
+abbrev pub refuses_anything : ⊤ → List ℕ → LineFault → ⊤ → Type 0
+refuses_anything machine line why next = ⊤
+
+-- The same, where nothing is known of what the machines say. So what this tells is which lines there are, which
+-- numbers of lines can be told, and when nothing is played.
 abbrev pub PlaysScript : Option (List ℕ) → ℕ → Option (List ℕ) → Option (List ℕ) → Type 0
-PlaysScript file code old new = PlaysItsLines file code old new ⊎ StopsUnplayed file code old new
+PlaysScript file code old new = PlaysScriptBy says_anything refuses_anything says_anything refuses_anything tt tt tt tt file code old new

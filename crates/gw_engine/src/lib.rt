@@ -49,6 +49,6 @@ mod showing;
 mod stop;
 
 pub use checking::check;
-pub use playing::{play, play_lines};
+pub use playing::{play, play_by, play_lines};
 pub use showing::show;
 pub use stop::{Stop, end};

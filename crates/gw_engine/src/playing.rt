@@ -2,7 +2,7 @@
 ghost use Rattle.std.specs.Prelude.{◌≡◌, ◌≤◌, IfErr, IfOk};
 ghost use Rattle.gw_console.specs.Status.{exit_code};
 ghost use Rattle.gw_engine.specs.Ends.{stop_of_line};
-ghost use Rattle.gw_engine.specs.Printing.{IsNoScript, Plays, PlaysItsLines, PlaysScript, Prints};
+ghost use Rattle.gw_engine.specs.Printing.{IsNoScript, Plays, PlaysBy, PlaysScript, PlaysScriptBy, Prints};
 
 use crate::stop::{Stop, end};
 use gw_console::{Status, read_whole, write_whole};
@@ -21,29 +21,54 @@ pub fn play<R: Read, W: Write>(alloc: Global, reader: &mut R, writer: &mut W) ->
         (W.contents writer.old) (W.contents writer.new) }
     ensures code { result ≤ 1 }
 {
-    match play_script(alloc, reader, writer) {
+    let mut one = One::new(alloc);
+    let mut two = Two::new(alloc);
+    play_by(alloc, &mut one, &mut two, reader, writer)
+}
+
+/// Plays the script that the reader has as [`play`] does, by these two machines: the first has the scripts of
+/// kind `one`, the second those of kind `two`.
+///
+/// Whatever the machines: what goes out, where the writer tells its octets, is what the machine of the
+/// script's kind says at the script's directives, as [`play_lines`] has it. The other one stays as it is, and
+/// both do where nothing is played.
+pub fn play_by<A: Player, B: Player, R: Read, W: Write>(
+    alloc: Global,
+    one: &mut A,
+    two: &mut B,
+    reader: &mut R,
+    writer: &mut W,
+) -> u8
+    ensures plays { PlaysScriptBy A.says A.refuses B.says B.refuses one.old one.new two.old two.new
+        (R.remaining reader.old) result (W.contents writer.old) (W.contents writer.new) }
+    ensures code { result ≤ 1 }
+{
+    match play_script(alloc, one, two, reader, writer) {
         Ok(status) => status.code(),
         Err(stop) => end(Err(stop), writer).code(),
     }
 }
 
-fn play_script<R: Read, W: Write>(
+fn play_script<A: Player, B: Player, R: Read, W: Write>(
     alloc: Global,
+    one: &mut A,
+    two: &mut B,
     reader: &mut R,
     writer: &mut W,
 ) -> Result<Status, Stop>
     ensures plays { IfOk result
-        (λ status. PlaysItsLines (R.remaining reader.old) (exit_code status)
-        (W.contents writer.old) (W.contents writer.new)) }
+        (λ status. PlaysBy A.says A.refuses B.says B.refuses one.old one.new two.old two.new
+        (R.remaining reader.old) (exit_code status) (W.contents writer.old) (W.contents writer.new)) }
     ensures because { IfErr result (λ why. IsNoScript (R.remaining reader.old) why) }
     ensures code { IfOk result (λ status. exit_code status ≤ 1) }
+    ensures unplayed { IfErr result (λ _. (one.new ≡ one.old) × (two.new ≡ two.old)) }
     ensures unwritten { IfErr result (λ _. writer.new ≡ writer.old) }
 {
     let script = read_whole(alloc, reader)?;
     let lines = directives(alloc, &script)?;
     match Kind::named(first_line(&script)) {
-        Some(Kind::One) => Ok(play_lines(&mut One::new(alloc), &lines, writer)),
-        Some(Kind::Two) => Ok(play_lines(&mut Two::new(alloc), &lines, writer)),
+        Some(Kind::One) => Ok(play_lines(one, &lines, writer)),
+        Some(Kind::Two) => Ok(play_lines(two, &lines, writer)),
         None => Err(Stop::Line(1)),
     }
 }
