@@ -8,6 +8,7 @@ A crate's first edit costs a proof of the crate, each further one 15 to 80 secon
 each crate that a change touches, below which the libraries are proved already. Prints a line for each edit, and ends with status 1 where one isn't refused.
 """
 import pathlib
+import shutil
 import sys
 
 import rt_once
@@ -32,9 +33,16 @@ def main():
         crate = crates[name]
         if any(dep.build_rlib(["--jobs", "1"], anew=False) for dep in crate.below()):
             sys.exit(f"edits.py: a library below {name} is not proved")
-        for well, text in command.must_fail_all(crate, edits_of(crate), ["--jobs", "1"]):
+        room = command.seeded(crate, ["--jobs", "1"])
+        if not room:
+            sys.exit(f"edits.py: {name} is not proved as it stands")
+        for number, edit in enumerate(edits_of(crate)):
+            over = f"{room}/{number}"
+            command.linked(f"{room}/seed", over)
+            came, text = command.must_fail(crate, edit, ["--jobs", "1"], over)
             print(text, flush=True)
-            refused, failed = refused + well, failed + (not well)
+            refused, failed = refused + (came == command.REFUSED), failed + (came != command.REFUSED)
+        shutil.rmtree(room)
     print(f"{refused} refused, {failed} failed")
     return 1 if failed else 0
 

@@ -266,8 +266,8 @@ uint32_t suk_esp_all(suk_gateway *, const uint8_t *octets, size_t, const suk_pla
 /* Whole IP packets on their way out, each in its place in one buffer: as so many calls of suk_outward in their order. Sealed packets lie
  * one behind the other in the room from its beginning: a record's offset and length say where. A packet for which fewer than
  * SUK_ROOM(length) octets of the room are left is refused alone: SUK_REFUSED, code 103; one whose place isn't in the buffer with code 109.
- * A room of as many octets as SUK_ROOM of all lengths together is enough. Where memory runs out, more packets of the list may be refused
- * (code 20) than by single calls. 101; 103, and nothing is done, where there are fewer records than places. */
+ * A room of as many octets as SUK_ROOM of all lengths together is enough. None is refused for want of memory, as by a single call (code 20)
+ * it may be. 101; 103, and nothing is done, where there are fewer records than places. */
 uint32_t suk_outward_all(suk_gateway *, const uint8_t *octets, size_t, const suk_place *, size_t, uint8_t *room, size_t, suk_output *,
                          size_t);
 

@@ -6,7 +6,6 @@ use Rattle.esp.specs.Opening.{IsOpeningRefusal, Refuses}
 use Rattle.esp.specs.Views.{Receiving}
 use Rattle.esp.specs.declared.fault.EspFault.{EspFault}
 use Rattle.esp.specs.declared.fault.EspFault.TheVariants.{Exhausted, PayloadSize, BadLength, Old, Replayed, BadNumber, BadIcv, BadPadding, Memory}
-use Rattle.esp.proofs.NumberLemmas.{judged_as_one}
 use Rattle.sadb.specs.Database.{Database, HasInbound, pair_at}
 use Rattle.sadb.specs.declared.pair.Pair.{Pair}
 use Rattle.traffic.specs.Faults.{is_after_judging}
@@ -153,7 +152,7 @@ module _ (old : Database) (packet : Octets) (child : ℕ) (pair : Pair) (stands 
         let same : t.takes.pair ≡ pair = same_addressee t.takes.pair t.takes.addressed in
         let serial : t.child ≡ child = t.takes.child_is ∙ sym (t.takes.addressed.inbound.only child inbound_there) in
         let number : t.number ≡ n =
-        judged_as_one pair.inbound.association pair.inbound.window packet t.number n
+        facts.judged pair.inbound.association pair.inbound.window packet t.number n
         (subst (λ (p : Pair). Judges p.inbound.association p.inbound.window packet t.number) same t.takes.judged) judged in
         subst (λ (k : ℕ). TakesNumberAt old packet child k new) number (subst (λ (c : ℕ). TakesNumberAt old packet c t.number new) serial t.takes)
 
@@ -162,7 +161,7 @@ module _ (old : Database) (packet : Octets) (child : ℕ) (pair : Pair) (stands 
       | inl t ↦ so_taken new t
       | inr away ↦
           let s = shut away.fault new away.before_judging (subst (λ (o : Outcome). Receives old packet o new) away.dropped is) in
-          absurd (judged_anyway pair.inbound.association pair.inbound.window packet n s.refusal judged s.why)
+          absurd (judged_anyway facts pair.inbound.association pair.inbound.window packet n s.refusal judged s.why)
     ]
 
 lost_unopened : (old : Database) (packet : Octets) (fault : PacketFault) (new : Database) → IsUnopened old packet fault new

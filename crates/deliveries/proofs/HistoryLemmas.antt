@@ -10,7 +10,7 @@ use Rattle.std.proofs.lemmas.List.{length-map}
 use Rattle.base.specs.Octets.{Octets}
 use Rattle.esp.specs.declared.sa.Sa.{Sa}
 use Rattle.esp.specs.Delivery as esp
-use Rattle.esp.specs.Delivery.{all_taken, taken_after, History, taken_at, IsJudged, AtMostOnce, ExactlyAtFirst}
+use Rattle.esp.specs.Delivery.{all_taken, History, taken_at, IsJudged}
 use Rattle.esp.specs.Judging.{IsJudgedLength, IsNumber, Judges, low_half}
 use Rattle.esp.specs.Packet.{PassesIntegrity}
 use Rattle.sadb.specs.Database.{pair_at}

@@ -6,7 +6,6 @@ use Rattle.std.specs.FinMap as finite_map
 use Rattle.base.specs.Octets.{Octets}
 use Rattle.esp.specs.Delivery.{AtMostOnce, Shows}
 use Rattle.esp.specs.Judging.{Judges}
-use Rattle.esp.proofs.HistoryLemmas.{at_most_once, exactly_at_first}
 use Rattle.sadb.specs.Database.{Database, pair_at}
 use Rattle.sadb.specs.declared.pair.Pair.{Pair}
 use Rattle.traffic.specs.Outcomes.{Dropped, Outcome}
@@ -135,12 +134,12 @@ module _ (facts : PacketFacts) (old : Database) (ps : List Passage) (new : Datab
             let c = judged_comes child n p j in
             let unforged = unforged_in child ps all.numbers end sent u place p c.pair here c.comes.stands in
             first_out child ps all.numbers end sent u n place
-            ((exactly_at_first (child_history child ps all.numbers end) is sent unforged place n).0 ((are.exactly place n p here).1 j)),
+            ((facts.exactly (child_history child ps all.numbers end) is sent unforged place n).0 ((are.exactly place n p here).1 j)),
         λ f.
             let a = f.arrives in
             let unforged = unforged_in child ps all.numbers end sent u place a.passage a.pair a.here a.comes.stands in
             (are.exactly place n p here).0
-            ((exactly_at_first (child_history child ps all.numbers end) is sent unforged place n).1 (first_in child ps all.numbers end sent u n place f)),
+            ((facts.exactly (child_history child ps all.numbers end) is sent unforged place n).1 (first_in child ps all.numbers end sent u n place f)),
       )
 
   -- the packet that is judged as what was sent is what was sent
@@ -158,7 +157,7 @@ module _ (facts : PacketFacts) (old : Database) (ps : List Passage) (new : Datab
   at_most : AtMostOnce (child_history child ps all.numbers (has_end facts child old ps new trail))
   at_most =
       let end = has_end facts child old ps new trail in
-      at_most_once (child_history child ps all.numbers end) (history_judged child ps all.numbers end are judged)
+      facts.once (child_history child ps all.numbers end) (history_judged child ps all.numbers end are judged)
 
   gone : (first place n : ℕ) (p q : Passage) → first ≤ place → slice_get ps first ≡ Some p → slice_get ps place ≡ Some q
       → child < p.before.next → pair_at p.before.pairs child ≡ None → ¬ IsJudgedAs child n q

@@ -4,13 +4,16 @@ use Rattle.std.proofs.Common.{◌≡◌, ◌≢◌, ◌⊎◌, ◌↔◌, ◌+�
 use Rattle.std.specs.Prelude.{nat_eq, nat_lt}
 use Rattle.std.proofs.lemmas.Bool.{and_from, both_ways, cases_Bool, eq-eqb, lt-ltb, or_left}
 use Rattle.std.proofs.lemmas.Bool.Decides.{eqb_tells}
+use Rattle.std.specs.FinMap as finite_map
 use Rattle.std.specs.FinSet as set
+use Rattle.std.specs.Ordering.{nat_cmp}
 use Rattle.base.specs.Octets.{Octets}
-use Rattle.replay.specs.Window.{Seen, Takes}
-use Rattle.esp.specs.Judging.{Judges}
+use Rattle.replay.specs.Window.{IsSoundWindow, Seen, Takes}
+use Rattle.esp.specs.declared.sa.Sa.{Sa}
+use Rattle.esp.specs.Delivery.{AtMostOnce, ExactlyAtFirst, History, IsJudged, Shows, Unforged}
+use Rattle.esp.specs.Judging.{IsNumber, Judges}
 use Rattle.esp.specs.Opening.{TakesNumber}
 use Rattle.esp.specs.Views.{Receiving}
-use Rattle.esp.proofs.NumberLemmas.{judged_as_one}
 use Rattle.sadb.specs.Database.{Database, IsInbound, IsSoundTable, PairMap, pair_at}
 use Rattle.sadb.specs.declared.pair.Pair.{Pair}
 use Rattle.traffic.specs.Faults.{is_after_judging}
@@ -22,13 +25,23 @@ use Rattle.deliveries.specs.Passages.{IsPassage, Leads, Passage, Reception}
 use Rattle.deliveries.specs.Promises.{IsSameEnd}
 use Rattle.deliveries.proofs.TableLemmas.{changed_apart, changed_here, changed_next, one_held}
 
--- what the crates below say of a packet that came
+-- what the crates below say of a packet that came, and of the window that it came to
 pub record PacketFacts : Type 0 where
   pub up : (old new : Database) (packet inner : Octets) (child number : ℕ) → Receives old packet (Up child number inner) new → TakesNumberAt old packet child number new
   pub dummy : (old new : Database) (packet : Octets) (child number : ℕ) → Receives old packet (Dummy child number) new → TakesNumberAt old packet child number new
   pub after : (old new : Database) (packet : Octets) (fault : PacketFault) → Receives old packet (Dropped fault) new → is_after_judging fault ≡ true → TakesOneNumber old packet new
   pub before : (old new : Database) (packet : Octets) (fault : PacketFault) → Receives old packet (Dropped fault) new → is_after_judging fault ≡ false → new ≡ old
   pub inbound : (pairs : PairMap) (spi : ℕ) (a b : Pair) → IsInbound pairs spi a → IsInbound pairs spi b → a ≡ b
+  -- its sequence number
+  pub number : (e : Bool) (w : Seen) (low n m : ℕ) → IsNumber e w low n → IsNumber e w low m → n ≡ m
+  pub judged : (a : Sa) (w : Seen) (b : Octets) (n m : ℕ) → Judges a w b n → Judges a w b m → n ≡ m
+  pub positive : (a : Sa) (w : Seen) (b : Octets) (n : ℕ) → Judges a w b n → 1 ≤ n
+  -- what its window shows
+  pub sound : (w : Seen) → IsSoundWindow w → Shows w w.size w.taken
+  pub taking : (old new : Seen) (n size : ℕ) (taken : set.FinSet nat_cmp) → 1 ≤ n → Shows old size taken → Takes old n new → Shows new size (set.insert taken n)
+  -- all deliveries to one SA
+  pub once : (h : History) → IsJudged h → AtMostOnce h
+  pub exactly : (h : History) → IsJudged h → (sent : finite_map.FinMap nat_cmp Octets) → Unforged h sent → ExactlyAtFirst h sent
 
 -- a packet takes a sequence number, or is turned away
 pub record IsAway (old : Database) (outcome : Outcome) (new : Database) : Type 0 where
@@ -61,7 +74,7 @@ one_taking facts old packet child other n m new last first second =
     record {
       child_is = first.child_is ∙ ap (λ (p : Pair). p.serial) same ∙ sym second.child_is;
       number_is =
-          judged_as_one second.pair.inbound.association second.pair.inbound.window packet n m
+          facts.judged second.pair.inbound.association second.pair.inbound.window packet n m
           (subst (λ (p : Pair). Judges p.inbound.association p.inbound.window packet n) same first.judged) second.judged;
     }
 

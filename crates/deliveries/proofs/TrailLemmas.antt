@@ -8,8 +8,6 @@ use Rattle.std.proofs.lemmas.Bool.Decides.{leb_tells}
 use Rattle.replay.specs.Window.{Takes}
 use Rattle.esp.specs.Delivery.{Shows, taken_after}
 use Rattle.esp.specs.Views.{Receiving}
-use Rattle.esp.proofs.NumberLemmas.{judged_positive}
-use Rattle.esp.proofs.Runs.{sound_shown, takes_shown}
 use Rattle.sadb.specs.Database.{Database, IsSoundTable, pair_at}
 use Rattle.sadb.specs.declared.pair.Pair.{Pair}
 use Rattle.deliveries.specs.Numbers.{AreNumbersOf, IsJudgedAs, taken_at_first, taken_by}
@@ -90,7 +88,7 @@ module _ (facts : PacketFacts) (child : ℕ) (p : Passage) (is : IsPassage p) (t
   afterwards = taken_after taken (number ∷ [])
 
   positive : (n : ℕ) → IsJudgedAs child n p → 1 ≤ n
-  positive n j = judged_positive j.takes.pair.inbound.association j.takes.pair.inbound.window j.reception.packet n j.takes.judged
+  positive n j = facts.positive j.takes.pair.inbound.association j.takes.pair.inbound.window j.reception.packet n j.takes.judged
 
   -- an SA pair that stood
   shown_of_old : (pair : Pair) → Stood child p pair → Shows pair.inbound.window pair.inbound.window.size afterwards
@@ -101,7 +99,7 @@ module _ (facts : PacketFacts) (child : ℕ) (p : Passage) (is : IsPassage p) (t
             let n = took.number in
             let takes : Takes stood.was.inbound.window n pair.inbound.window = took.takes.window in
             let inserted : Shows pair.inbound.window stood.was.inbound.window.size (set.insert taken n) =
-            takes_shown stood.was.inbound.window pair.inbound.window n stood.was.inbound.window.size taken (positive n took.judged) before takes in
+            facts.taking stood.was.inbound.window pair.inbound.window n stood.was.inbound.window.size taken (positive n took.judged) before takes in
             let sized : Shows pair.inbound.window pair.inbound.window.size (set.insert taken n) =
             subst (λ (size : ℕ). Shows pair.inbound.window size (set.insert taken n)) (sym takes.size) inserted in
             subst (λ (s : set.FinSet nat_cmp). Shows pair.inbound.window pair.inbound.window.size s) (after_one taken number n ((exactly n).1 took.judged)) sized
@@ -122,7 +120,7 @@ module _ (facts : PacketFacts) (child : ℕ) (p : Passage) (is : IsPassage p) (t
   holds_after sound = record {
     shown = λ pair there. elim (leb_tells p.before.next child) [
       | inl (_, above) ↦
-          none_shown pair.inbound.window afterwards (sound.window child pair there) (came_unused facts child p is pair above there) (none_yet above)
+          none_shown facts pair.inbound.window afterwards (sound.window child pair there) (came_unused facts child p is pair above there) (none_yet above)
       | inr (_, below) ↦ shown_of_old pair (stood_before facts child p is pair below there)
     ];
     unborn = λ above. (let grows = next_grows facts child p is in none_yet (omega arith));
@@ -151,8 +149,8 @@ held_at facts child taken q (r ∷ ps) (n ∷ ns) new (suc place) p is trail are
     (held_at facts child (taken_after taken (n ∷ [])) r ps ns new place p trail.1 trail.2 are.1 next_is there)
 
 -- at the first
-pub held_at_first : (child : ℕ) (table : Database) → IsSoundTable table → Holds table child (taken_by (pair_at table.pairs child))
-held_at_first child table sound = elim (held_or_not Pair (pair_at table.pairs child)) [
+pub held_at_first : PacketFacts → (child : ℕ) (table : Database) → IsSoundTable table → Holds table child (taken_by (pair_at table.pairs child))
+held_at_first facts child table sound = elim (held_or_not Pair (pair_at table.pairs child)) [
   | inl none ↦ record {
     shown = λ pair there. absurd (cc);
     unborn = λ above n. ap (λ (o : Option Pair). set.contains (taken_by o) n) none ∙ set.contains-empty nat_cmp n;
@@ -161,7 +159,7 @@ held_at_first child table sound = elim (held_or_not Pair (pair_at table.pairs ch
     shown = λ pair there.
         let same : held.value ≡ pair = one_held held.value pair (sym held.is ∙ there) in
         let first : taken_by (pair_at table.pairs child) ≡ pair.inbound.window.taken = ap taken_by there in
-        subst (λ (s : set.FinSet nat_cmp). Shows pair.inbound.window pair.inbound.window.size s) (sym first) (sound_shown pair.inbound.window (sound.window child pair there));
+        subst (λ (s : set.FinSet nat_cmp). Shows pair.inbound.window pair.inbound.window.size s) (sym first) (facts.sound pair.inbound.window (sound.window child pair there));
     unborn = λ above n. (let below = (sound.serial_given child held.value held.is).1 in absurd (omega arith));
   }
 ]
@@ -170,7 +168,7 @@ pub held : PacketFacts → (child : ℕ) (old : Database) (ps : List Passage) (n
     → IsTrail old ps new → AreJudgedAs child ps ns → slice_get ps place ≡ Some p → Holds p.before child (taken_after (taken_at_first child ps) (take place ns))
 held facts child old [] ns new place p trail are there = absurd (cc)
 held facts child old (q ∷ ps) ns new place p trail are there =
-    held_at facts child (taken_at_first child (q ∷ ps)) q ps ns new place p trail.1 trail.2 are (held_at_first child q.before trail.1.sound) there
+    held_at facts child (taken_at_first child (q ∷ ps)) q ps ns new place p trail.1 trail.2 are (held_at_first facts child q.before trail.1.sound) there
 
 -- each step of a trail is a passage
 pub passage_at : (old : Database) (ps : List Passage) (new : Database) (place : ℕ) (p : Passage) → IsTrail old ps new → slice_get ps place ≡ Some p → IsPassage p

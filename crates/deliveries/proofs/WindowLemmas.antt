@@ -14,8 +14,7 @@ use Rattle.esp.specs.Delivery.{all_taken, greatest, Shows}
 use Rattle.esp.specs.Judging.{IsNumber, Judges, low_half}
 use Rattle.esp.specs.Opening.{IsOpeningRefusal}
 use Rattle.esp.specs.Packet.{PassesIntegrity}
-use Rattle.esp.proofs.NumberLemmas.{one_number_of}
-use Rattle.esp.proofs.Runs.{sound_shown}
+use Rattle.deliveries.proofs.StepLemmas.{PacketFacts}
 
 -- a sequence number at one window is that at another with the same top and size
 number_seen : (e : Bool) (w v : Seen) (low n : ℕ) → w.top ≡ v.top → w.size ≡ v.size → IsNumber e w low n → IsNumber e v low n
@@ -77,28 +76,28 @@ module _ (w : Seen) (taken : set.FinSet nat_cmp) (shows : Shows w w.size taken) 
   refused_by_all a b Memory h = h
 
 -- a sound window in which no sequence number is taken shows any numbers that are none
-pub none_shown : (w : Seen) (taken : set.FinSet nat_cmp) → IsSoundWindow w → ((n : ℕ) → set.contains w.taken n ≡ false)
+pub none_shown : PacketFacts → (w : Seen) (taken : set.FinSet nat_cmp) → IsSoundWindow w → ((n : ℕ) → set.contains w.taken n ≡ false)
     → ((n : ℕ) → set.contains taken n ≡ false) → Shows w w.size taken
-none_shown w taken sound none none_taken =
+none_shown facts w taken sound none none_taken =
     let same : w.taken ≡ taken = set.same_set nat_cmp_total set.nat_cmp-IsAntisymmetric w.taken taken (λ n. none n ∙ sym (none_taken n)) in
-    subst (λ (s : set.FinSet nat_cmp). Shows w w.size s) same (sound_shown w sound)
+    subst (λ (s : set.FinSet nat_cmp). Shows w w.size s) same (facts.sound w sound)
 
 -- a packet that is judged isn't refused before
-pub judged_anyway : (a : Sa) (w : Seen) (b : List ℕ) (n : ℕ) (e : EspFault) → Judges a w b n → IsOpeningRefusal a w b e → ⊥
-judged_anyway a w b n BadLength j is = is j.whole
-judged_anyway a w b n BadNumber j is = is.1 n j.number
-judged_anyway a w b n Old j is =
-    let same = one_number_of a.extended w (low_half b) is.1.0 n is.1.1 j.number in
+pub judged_anyway : PacketFacts → (a : Sa) (w : Seen) (b : List ℕ) (n : ℕ) (e : EspFault) → Judges a w b n → IsOpeningRefusal a w b e → ⊥
+judged_anyway facts a w b n BadLength j is = is j.whole
+judged_anyway facts a w b n BadNumber j is = is.1 n j.number
+judged_anyway facts a w b n Old j is =
+    let same = facts.number a.extended w (low_half b) is.1.0 n is.1.1 j.number in
     let below = is.1.2 in
     let reach = j.in_reach in
     omega arith
-judged_anyway a w b n Replayed j is =
-    let same = one_number_of a.extended w (low_half b) n is.1.0 j.number is.1.1 in
+judged_anyway facts a w b n Replayed j is =
+    let same = facts.number a.extended w (low_half b) n is.1.0 j.number is.1.1 in
     both_ways _ j.new (ap (set.contains w.taken) same ∙ is.1.3)
-judged_anyway a w b n BadIcv j is =
-    let same = one_number_of a.extended w (low_half b) n is.1.0 j.number is.1.1 in
+judged_anyway facts a w b n BadIcv j is =
+    let same = facts.number a.extended w (low_half b) n is.1.0 j.number is.1.1 in
     is.1.4 (subst (λ (k : ℕ). PassesIntegrity a k b) same j.intact)
-judged_anyway a w b n Exhausted j is = is
-judged_anyway a w b n PayloadSize j is = is
-judged_anyway a w b n BadPadding j is = is
-judged_anyway a w b n Memory j is = is
+judged_anyway facts a w b n Exhausted j is = is
+judged_anyway facts a w b n PayloadSize j is = is
+judged_anyway facts a w b n BadPadding j is = is
+judged_anyway facts a w b n Memory j is = is

@@ -1,7 +1,7 @@
 -- The worked list of steps is a trail, and no ICV in it is forged.
-use Rattle.std.proofs.Common.{◌≡◌, ◌≢◌, ◌↔◌, ◌+◌, ◌≤◌, ◌||◌, ◌&&◌, ℕ, zero, suc, Bool, true, false, cond, Some, None, ◌++◌, refl, sym, ap, ◌∙◌, subst, arith, inl, inr}
+use Rattle.std.proofs.Common.{◌≡◌, ◌≢◌, ◌↔◌, ◌+◌, ◌%◌, ◌≤◌, ◌||◌, ◌&&◌, ◌^◌, ◌<◌, if◌then◌else◌, ℕ, zero, suc, Bool, true, false, cond, Some, None, ◌++◌, refl, sym, ap, ◌∙◌, subst, arith, inl, inr}
 use Rattle.std.specs.Prelude.{nat_eq, nat_lt, slice_get}
-use Rattle.std.specs.Cmp.{nat_cmp_total}
+use Rattle.std.specs.Cmp.{nat_cmp_total, unsigned_tied}
 use Rattle.std.specs.Ordering.{nat_cmp}
 use Rattle.std.specs.FinMap as map
 use Rattle.std.specs.FinSet as set
@@ -12,15 +12,15 @@ use Rattle.base.specs.Octets.{Octets}
 use Rattle.base.specs.declared.address.Address.TheVariants as address
 use Rattle.base.specs.declared.address.Family.TheVariants as family
 use Rattle.base.specs.declared.address.Range.TheVariants.{V4}
-use Rattle.replay.specs.Window.{IsSoundWindow, Seen, Takes, unused_window}
-use Rattle.replay.proofs.WindowFacts.{takes_sound}
+use Rattle.replay.specs.Window.{IsSoundWindow, Seen, Takes, judgement, unused_window}
+use Rattle.replay.specs.declared.window.Judgement.TheVariants.{Taken, Fresh}
 use Rattle.esp.specs.Delivery.{greatest}
 use Rattle.esp.specs.Judging.{IsNumber, Judges, low_half}
 use Rattle.esp.specs.Packet.{check_value, head, IsContents, IsPacket, PassesIntegrity, trailer}
-use Rattle.esp.specs.Worked.{IsWorked, repeated, repeated_sent, worked, worked_packet, worked_payload}
+use Rattle.esp.specs.Sealing.{FitsPacket, IsShortestPacket}
+use Rattle.esp.specs.Worked.{IsOpenable, IsWorked, repeated, repeated_sent, worked, worked_packet, worked_payload}
 use Rattle.esp.specs.declared.fault.EspFault.TheVariants.{Replayed}
-use Rattle.esp.proofs.NumberLemmas.{contains-insert_nat, greatest-is}
-use Rattle.esp.proofs.PacketLemmas.{packet_contents}
+use Rattle.esp.specs.declared.sa.Sa.{Sa}
 use Rattle.policy.specs.Decisions.{Covers}
 use Rattle.policy.specs.Packets.{IsFlowOf, IsFragment}
 use Rattle.policy.specs.Points.{HasPorts}
@@ -39,16 +39,24 @@ use Rattle.deliveries.proofs.ChangeLemmas.{unchanged}
 use Rattle.deliveries.proofs.StepLemmas.{none_received, of_reception, one_reception, one_taking, PacketFacts, taking_changes}
 use Rattle.deliveries.proofs.TableLemmas.{inserted_apart, inserted_here, one_held}
 
+-- what the crates below say of a packet that came, of a window that takes a sequence number, and of a sealed
+-- packet
+pub record WorkedFacts : Type 0 where
+  pub packets : PacketFacts
+  pub stays_sound : (old new : Seen) (n : ℕ) → IsSoundWindow old → judgement old n ≡ Fresh → n < 2 ^ 64 → Takes old n new → IsSoundWindow new
+  pub openable : (a : Sa) (n next : ℕ) (payload b : Octets) → IsShortestPacket a n next payload b → FitsPacket payload → IsOpenable a n next payload b
+
 -- ---- windows
+
+-- a number is in the set after an insert
+contains-insert_nat : (s : set.FinSet nat_cmp) (k q : ℕ) → set.contains (set.insert s k) q ≡ (nat_eq q k || set.contains s q)
+contains-insert_nat s k q = set.contains-insert nat_cmp_total s k q ∙ ap (λ b. b || set.contains s q) (unsigned_tied q k)
 
 abbrev unused : Seen
 unused = unused_window 2
 
 none_taken : (n : ℕ) → set.contains (set.empty {R = nat_cmp}) n ≡ false
 none_taken n = set.contains-empty nat_cmp n
-
-greatest-empty : greatest set.empty ≡ 0
-greatest-empty = sym (greatest-is set.empty 0 (λ n e. absurd (both_ways _ (none_taken n) e)) (λ h. absurd (omega arith)))
 
 unused_sound : IsSoundWindow unused
 unused_sound = record {
@@ -59,6 +67,9 @@ unused_sound = record {
   top_taken = λ h. absurd (omega arith);
   fits = omega arith;
 }
+
+greatest-empty : WorkedFacts → greatest set.empty ≡ 0
+greatest-empty facts = sym (facts.packets.sound unused unused_sound).top
 
 with_true : (x m : Bool) → m ≡ true → x ≡ (x && m)
 with_true true m is = sym is
@@ -74,8 +85,11 @@ seven_is_taken = record {
 seven_there : set.contains seven_taken.taken 7 ≡ true
 seven_there = contains-insert_nat set.empty 7 7 ∙ or_left (nat_eq 7 7) (set.contains (set.empty {R = nat_cmp}) 7) (eq-eqb 7 7 refl)
 
-seven_sound : IsSoundWindow seven_taken
-seven_sound = takes_sound unused seven_taken 7 unused_sound (record { not_zero = omega arith; not_old = omega arith; not_taken = none_taken 7 }) (omega arith) seven_is_taken
+seven_is_fresh : judgement unused 7 ≡ Fresh
+seven_is_fresh = ap (λ b. if b then Taken else Fresh) (none_taken 7)
+
+seven_sound : WorkedFacts → IsSoundWindow seven_taken
+seven_sound facts = facts.stays_sound unused seven_taken 7 unused_sound seven_is_fresh (omega arith) seven_is_taken
 
 -- ---- tables of the one SA pair
 
@@ -166,8 +180,8 @@ later_pairs = record {
 first_sound : IsSoundTable worked_table
 first_sound = sound unused worked_table.pairs unused_sound first_pairs
 
-later_sound : IsSoundTable later_table
-later_sound = sound seven_taken later_table.pairs seven_sound later_pairs
+later_sound : WorkedFacts → IsSoundTable later_table
+later_sound facts = sound seven_taken later_table.pairs (seven_sound facts) later_pairs
 
 -- ---- the packet
 
@@ -186,8 +200,12 @@ worked_spi =
     append_assoc (begins ++ worked_payload) ends check ∙ append_assoc begins worked_payload (ends ++ check) in
     ap spi_of split ∙ spi_of_head (worked_payload ++ (ends ++ check))
 
-worked_contents : IsContents (worked_packet false 7) 4 worked_payload
-worked_contents = packet_contents (worked false) 7 4 worked_payload 2 (worked_packet false 7) worked_is
+-- the payload has 20 octets, and 2 octets of padding fill the last word
+worked_shortest : IsShortestPacket (worked false) 7 4 worked_payload (worked_packet false 7)
+worked_shortest = record { p = 2; packet = worked_is; shortest = λ q c is. (let aligned : (20 + q + 2) % 4 ≡ 0 = is.aligned in omega arith) }
+
+worked_contents : WorkedFacts → IsContents (worked_packet false 7) 4 worked_payload
+worked_contents facts = (facts.openable (worked false) 7 4 worked_payload (worked_packet false 7) worked_shortest (omega arith)).contents
 
 -- what it carries, from 10.0.0.1 to 10.1.0.1
 abbrev worked_flow : Flow
@@ -300,26 +318,26 @@ module _ (b : Octets) (such : IsSuch b) where
 
 -- ---- the list
 
-such_is : IsWorked repeated repeated_sent → IsSuch (worked_packet false 7)
-such_is is = record {
+such_is : WorkedFacts → IsWorked repeated repeated_sent → IsSuch (worked_packet false 7)
+such_is facts is = record {
   judged =
-      subst (λ (t : ℕ). Judges (worked false) (record { top = t; size = 64; taken = set.empty }) (worked_packet false 7) 7) greatest-empty
+      subst (λ (t : ℕ). Judges (worked false) (record { top = t; size = 64; taken = set.empty }) (worked_packet false 7) 7) (greatest-empty facts)
       ((is.judged.judged 0 7 (worked_packet false 7) refl).0 refl);
-  contents = worked_contents;
+  contents = worked_contents facts;
   spi = worked_spi;
 }
 
-first_is : IsWorked repeated repeated_sent → IsPassage first_delivery
-first_is is = record { sound = first_sound; leads = received_first (worked_packet false 7) (such_is is) }
+first_is : WorkedFacts → IsWorked repeated repeated_sent → IsPassage first_delivery
+first_is facts is = record { sound = first_sound; leads = received_first (worked_packet false 7) (such_is facts is) }
 
-another_is : IsPassage another_step
-another_is = record { sound = later_sound; leads = unchanged later_table later_table later_sound refl }
+another_is : WorkedFacts → IsPassage another_step
+another_is facts = record { sound = later_sound facts; leads = unchanged later_table later_table (later_sound facts) refl }
 
-second_is : IsWorked repeated repeated_sent → IsPassage second_delivery
-second_is is = record { sound = later_sound; leads = received_again (worked_packet false 7) (such_is is) }
+second_is : WorkedFacts → IsWorked repeated repeated_sent → IsPassage second_delivery
+second_is facts is = record { sound = later_sound facts; leads = received_again (worked_packet false 7) (such_is facts is) }
 
-worked_trail : IsWorked repeated repeated_sent → IsTrail worked_table worked_passages later_table
-worked_trail is = (refl, first_is is, (refl, another_is, (refl, second_is is, refl)))
+worked_trail : WorkedFacts → IsWorked repeated repeated_sent → IsTrail worked_table worked_passages later_table
+worked_trail facts is = (refl, first_is facts is, (refl, another_is facts, (refl, second_is facts is, refl)))
 
 nothing : (p : Passage) → None ≡ Some p → ⊥
 nothing p is = cc
@@ -335,19 +353,19 @@ plain_number true w v low n is number = absurd (cc)
 one_passage : (a b : Passage) → Some a ≡ Some b → a ≡ b
 one_passage a b is = cc
 
-first_taken : PacketFacts → IsWorked repeated repeated_sent → TakesNumberAt worked_table (worked_packet false 7) 1 7 later_table
-first_taken facts is = facts.up worked_table later_table (worked_packet false 7) worked_payload 1 7 (received_first (worked_packet false 7) (such_is is))
+first_taken : WorkedFacts → IsWorked repeated repeated_sent → TakesNumberAt worked_table (worked_packet false 7) 1 7 later_table
+first_taken facts is = facts.packets.up worked_table later_table (worked_packet false 7) worked_payload 1 7 (received_first (worked_packet false 7) (such_is facts is))
 
-judged_first : PacketFacts → IsWorked repeated repeated_sent → IsJudgedAs 1 7 first_delivery
+judged_first : WorkedFacts → IsWorked repeated repeated_sent → IsJudgedAs 1 7 first_delivery
 judged_first facts is = record {
   reception = record { packet = worked_packet false 7; outcome = Up 1 7 worked_payload };
   received = refl;
   takes = first_taken facts is;
 }
 
-seven_alone : PacketFacts → IsWorked repeated repeated_sent → (n : ℕ) → IsJudgedAs 1 n first_delivery → 7 ≡ n
+seven_alone : WorkedFacts → IsWorked repeated repeated_sent → (n : ℕ) → IsJudgedAs 1 n first_delivery → 7 ≡ n
 seven_alone facts is n j =
-    (one_taking facts worked_table (worked_packet false 7) 1 1 7 n later_table later_table (first_taken facts is)
+    (one_taking facts.packets worked_table (worked_packet false 7) 1 1 7 n later_table later_table (first_taken facts is)
     (of_reception 1 n first_delivery (record { packet = worked_packet false 7; outcome = Up 1 7 worked_payload }) refl j)).number_is
 
 none_again : (n : ℕ) → ¬ IsJudgedAs 1 n second_delivery
@@ -361,7 +379,7 @@ one_number a b is = cc
 no_number : (n : ℕ) (A : Type 0) → Some None ≡ Some (Some n) → A
 no_number n A is = absurd (cc)
 
-exactly : PacketFacts → IsWorked repeated repeated_sent → (place n : ℕ) (p : Passage) → slice_get worked_passages place ≡ Some p
+exactly : WorkedFacts → IsWorked repeated repeated_sent → (place n : ℕ) (p : Passage) → slice_get worked_passages place ≡ Some p
     → (slice_get worked_numbers place ≡ Some (Some n)) ↔ IsJudgedAs 1 n p
 exactly facts is zero n p there =
     subst (λ (q : Passage). (Some (Some 7) ≡ Some (Some n)) ↔ IsJudgedAs 1 n q) (one_passage first_delivery p there) (
@@ -425,9 +443,9 @@ unforged is = record {
       (subst (λ a. PassesIntegrity a n b) association intact);
 }
 
-pub worked_is_met : PacketFacts → IsWorked repeated repeated_sent → IsWorkedTrail
+pub worked_is_met : WorkedFacts → IsWorked repeated repeated_sent → IsWorkedTrail
 worked_is_met facts is = record {
-  trail = worked_trail is;
+  trail = worked_trail facts is;
   numbers = record { each = refl; exactly = exactly facts is };
   unforged = unforged is;
 }

@@ -25,6 +25,9 @@ pub fn every_list_of_packets_is_judged()
     ensures { (old new : Database) (passages : List Passage) → IsTrail old passages new
         → PacketsAreJudged passages }
 {
+    esp::laws::a_packet_has_one_number();
+    esp::laws::windows_show_what_was_taken();
+    esp::laws::every_history_judges_at_most_once();
     sadb::laws::answers_are_determined();
     traffic::laws::a_packet_takes_one_number();
 }
@@ -69,7 +72,12 @@ pub fn other_changes_leave_windows()
 pub fn premises_are_met()
     ensures { IsWorkedTrail }
 {
+    replay::laws::taking_keeps_windows_sound();
     esp::laws::premise_is_met();
+    esp::laws::sealed_packets_open();
+    esp::laws::a_packet_has_one_number();
+    esp::laws::windows_show_what_was_taken();
+    esp::laws::every_history_judges_at_most_once();
     sadb::laws::answers_are_determined();
     traffic::laws::a_packet_takes_one_number();
 }

@@ -14,7 +14,7 @@ use Rattle.esp.specs.declared.sa.Sa.{Sa}
 use Rattle.esp.specs.Packet.{head, padding, trailer, check_value, number_limit}
 use Rattle.esp.specs.Views.{Sending}
 use Rattle.esp.specs.Sealing.{FitsPacket, Seals, SealRun, SealsFirst, payloads_of, most_octets}
-use Rattle.esp.specs.Laying.{AreHighHalves, pad_of, covered_size, covered, laid, LaysFirst, Lays, covered_sizes, packets_size, values_in, with_values}
+use Rattle.esp.specs.Laying.{AreHighHalves, IsReady, pad_of, covered_size, packet_size, covered, laid, LaysFirst, Lays, LaysIn, covered_sizes, packets_size, values_in, with_values}
 use Rattle.esp.proofs.ContentsLemmas.{length-padding}
 use Rattle.esp.proofs.PacketLemmas.{length-head}
 use Rattle.esp.proofs.SealingLemmas.{sealed}
@@ -208,6 +208,79 @@ with_zeros before front payload pads tail zeros after is =
     ap (λ (xs : List ℕ). front ++ (payload ++ xs)) (sym (append_assoc pads tail zeros))
     ∙ sym (append_assoc front payload ((pads ++ tail) ++ zeros))
     ∙ sym (append_assoc (front ++ payload) (pads ++ tail) zeros))
+
+-- a part more is written into a room, right behind what was written so far
+part_written : (old done part room after : List ℕ) (place next : ℕ) → length done ≡ place → place + length part ≡ next
+    → room ≡ done ++ drop place old → after ≡ take place room ++ part ++ drop (place + length part) room
+    → after ≡ (done ++ part) ++ drop next old
+part_written old done part room after place next long ends so_far is =
+    let front : take place room ≡ done = ap (take place) so_far ∙ take_at done (drop place old) place long in
+    let behind : drop place room ≡ drop place old = ap (drop place) so_far ∙ drop_at done (drop place old) place long in
+    is
+    ∙ ap (λ (xs : List ℕ). xs ++ part ++ drop (place + length part) room) front
+    ∙ ap (λ (xs : List ℕ). (done ++ part) ++ xs)
+    (sym (drop-drop (length part) place room) ∙ ap (drop (length part)) behind ∙ drop-drop (length part) place old)
+    ∙ ap (λ (k : ℕ). (done ++ part) ++ drop k old) ends
+
+-- a packet's parts, written into a room one behind the other
+pub packet_written : (old front payload pads tail zeros first second third fourth fifth : List ℕ) (pad : ℕ)
+    → length front ≡ 8 → length pads ≡ pad → length tail ≡ 2 → length zeros ≡ 16
+    → first ≡ take 0 old ++ front ++ drop (0 + length front) old
+    → second ≡ take 8 first ++ payload ++ drop (8 + length payload) first
+    → third ≡ take (8 + length payload) second ++ pads ++ drop (8 + length payload + length pads) second
+    → fourth ≡ take (8 + length payload + pad) third ++ tail ++ drop (8 + length payload + pad + length tail) third
+    → fifth ≡ take (8 + length payload + pad + 2) fourth ++ zeros ++ drop (8 + length payload + pad + 2 + length zeros) fourth
+    → fifth ≡ ((front ++ payload ++ (pads ++ tail)) ++ zeros) ++ drop (8 + length payload + pad + 2 + 16) old
+packet_written old front payload pads tail zeros first second third fourth fifth pad eight word two sixteen is_first is_second is_third is_fourth is_fifth =
+    let n : ℕ = length payload in
+    let size_payload : length (front ++ payload) ≡ 8 + n = length-append front payload ∙ omega arith in
+    let size_pads : length (front ++ payload ++ pads) ≡ 8 + n + pad = length-append (front ++ payload) pads ∙ omega arith in
+    let size_tail : length (front ++ payload ++ pads ++ tail) ≡ 8 + n + pad + 2 = length-append (front ++ payload ++ pads) tail ∙ omega arith in
+    let one : first ≡ front ++ drop 8 old = part_written old [] front old first 0 8 refl (omega arith) refl is_first in
+    let two_parts : second ≡ (front ++ payload) ++ drop (8 + n) old = part_written old front payload first second 8 (8 + n) eight refl one is_second in
+    let three : third ≡ (front ++ payload ++ pads) ++ drop (8 + n + pad) old =
+    part_written old (front ++ payload) pads second third (8 + n) (8 + n + pad) size_payload (omega arith) two_parts is_third
+    in
+    let four : fourth ≡ (front ++ payload ++ pads ++ tail) ++ drop (8 + n + pad + 2) old =
+    part_written old (front ++ payload ++ pads) tail third fourth (8 + n + pad) (8 + n + pad + 2) size_pads (omega arith) three is_fourth
+    in
+    part_written old (front ++ payload ++ pads ++ tail) zeros fourth fifth (8 + n + pad + 2) (8 + n + pad + 2 + 16) size_tail (omega arith) four is_fifth
+    ∙ ap (λ (xs : List ℕ). (xs ++ zeros) ++ drop (8 + n + pad + 2 + 16) old) (append_assoc (front ++ payload) pads tail)
+
+-- a packet that is written into a room is laid there
+pub laid_in : (old : Sending) (next : ℕ) (payload room : List ℕ) (n pad : ℕ) (new : Sending) (filled : List ℕ)
+    → IsReady old payload n pad → length payload + 29 ≤ length room → new ≡ sending old.association n
+    → filled ≡ ((head old.association n ++ payload ++ trailer pad next) ++ replicate 16 0) ++ drop (8 + length payload + pad + 2 + 16) room
+    → LaysIn old next payload room new filled
+laid_in old next payload room n pad new filled ready fits is_new is =
+    let a = old.association in
+    let k : ℕ = length payload in
+    let packet : List ℕ = covered a (old.last + 1) next payload ++ replicate 16 0 in
+    let rest : List ℕ = drop (packet_size k) room in
+    let whole : filled ≡ packet ++ rest =
+    is
+    ∙ ap (λ (q : ℕ). ((head a n ++ payload ++ trailer q next) ++ replicate 16 0) ++ drop (8 + k + q + 2 + 16) room) ready.least
+    ∙ ap (λ (m : ℕ). (covered a m next payload ++ replicate 16 0) ++ rest) ready.number
+    in
+    let sixteen = length-replicate {A = ℕ} 16 0 in
+    let long : length packet ≡ packet_size k =
+    length-append (covered a (old.last + 1) next payload) (replicate 16 0)
+    ∙ (let c = length-covered a (old.last + 1) next payload in omega arith)
+    in
+    let small = pad_small k in
+    let left = length-drop (packet_size k) room in
+    record {
+      lays = record {
+        has_number = ready.has_number;
+        fits = ready.fits;
+        last = is_new ∙ ap (sending a) ready.number;
+        appended = ap (take (packet_size k)) whole ∙ take_at packet rest (packet_size k) long;
+      };
+      behind = record {
+        size = ap length whole ∙ length-append packet rest ∙ omega arith;
+        rest = ap (drop (packet_size k)) whole ∙ drop_at packet rest (packet_size k) long;
+      };
+    }
 
 -- one ICV more is written
 pub value_written : (j start size k : ℕ) (ss : List ℕ) (vs : List (List ℕ)) (v octets all : List ℕ)

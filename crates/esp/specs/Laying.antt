@@ -16,6 +16,10 @@ pad_of octets = (4 - (octets + 2) % 4) % 4
 abbrev pub covered_size : ℕ → ℕ
 covered_size octets = 8 + octets + pad_of octets + 2
 
+-- the octets of its packet
+abbrev pub packet_size : ℕ → ℕ
+packet_size octets = covered_size octets + 16
+
 abbrev pub covered : Sa → ℕ → ℕ → List ℕ → List ℕ
 covered a n next payload = head a n ++ payload ++ trailer (pad_of (length payload)) next
 
@@ -32,6 +36,17 @@ pub record Lays (old : Sending) (next : ℕ) (payload before : List ℕ) (new : 
   pub fits : FitsPacket payload
   pub last : new ≡ record old { last = old.last + 1 }
   pub appended : after ≡ before ++ (covered old.association (old.last + 1) next payload ++ replicate 16 0)
+
+-- of a room so many octets may have changed, and what is behind them stands there still
+pub record StaysBehind (octets : ℕ) (room filled : List ℕ) : Type 0 where
+  pub size : length filled ≡ length room
+  pub rest : drop octets filled ≡ drop octets room
+
+-- the packet with the sequence number after the last stands at a room's beginning, with zeros in the place of
+-- its ICV; what is behind it stands there still
+pub record LaysIn (old : Sending) (next : ℕ) (payload room : List ℕ) (new : Sending) (filled : List ℕ) : Type 0 where
+  pub lays : Lays old next payload [] new (take (packet_size (length payload)) filled)
+  pub behind : StaysBehind (packet_size (length payload)) room filled
 
 -- the packets of these payloads, with the sequence numbers after this one
 abbrev pub laid : Sa → ℕ → ℕ → List (List ℕ) → List ℕ

@@ -50,4 +50,5 @@ pub use fault::{EspFault, ListFault, ListStop};
 pub use inbound::{Inbound, Opened};
 pub use load::PACKETS_LEAST;
 pub use outbound::Outbound;
+pub use packet::packet_size;
 pub use precomputed::{Precomputed, Question, no_values, precompute, value_at};

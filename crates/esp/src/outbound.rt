@@ -1,9 +1,9 @@
 //! The sender's end of an SA (RFC 4303 section 3.3).
-ghost use Rattle.std.specs.Prelude.{◌≡◌, ◌≢◌, ℕ, ◌+◌, ◌<◌, ◌≤◌, ◌++◌, length, take, vec_len, replicate, IfOk, IfErr, IfSome, OnOk};
+ghost use Rattle.std.specs.Prelude.{◌≡◌, ◌≢◌, ℕ, ◌+◌, ◌<◌, ◌≤◌, [], ◌++◌, drop, length, take, vec_len, replicate, IfOk, IfErr, IfSome, OnOk};
 ghost use Rattle.std.specs.Vec.{vec_capacity};
 ghost use Rattle.esp.specs.Packet.{head, joined_parts, trailer};
 ghost use Rattle.esp.specs.Sealing.{Seals, SealsFirst, IsSealRefusal, IsSealStop, most_octets, payloads_of};
-ghost use Rattle.esp.specs.Laying.{IsReady, Lays, LaysFirst, finished, finished_behind};
+ghost use Rattle.esp.specs.Laying.{IsReady, Lays, LaysFirst, LaysIn, finished, finished_behind, packet_size};
 ghost use Rattle.esp.specs.Precomputed.{IsPrecomputed, IsQuestion};
 ghost use Rattle.esp.specs.Progress.{EndsRightly, UsesRoom};
 ghost use Rattle.esp.specs.declared.fault.EspFault.{EspFault};
@@ -139,6 +139,24 @@ impl Outbound {
     {
         let (number, pad) = self.prepare(payload, out)?;
         append_without_check_value(out, &self.association, number, next, payload, pad);
+        self.last = number;
+        Ok(number)
+    }
+
+    /// Lays a packet as [`Outbound::lay`] does, but at the beginning of a room of the caller's, which has 29
+    /// octets more than the payload; what stands behind the packet stays. Of how many octets it is tells
+    /// [`packet_size`](crate::packet_size). Refused as that is, with nothing changed, but never for memory.
+    pub fn lay_in(&mut self, next: u8, payload: &[u8], room: &mut [u8]) -> Result<u64, EspFault>
+        requires { length payload.now + 29 ≤ length room.old }
+        ensures laid { OnOk result (LaysIn self.old next payload.now room.old self.new room.new) }
+        ensures sealed { IfOk result (λ number. Seals self.old next payload.now [] number self.new
+            (finished self.old.association number (take (packet_size (length payload.now)) room.new))) }
+        ensures refused { IfErr result (λ fault. IsSealRefusal self.old payload.now fault
+            × (self.new ≡ self.old) × (room.new ≡ room.old)) }
+        ensures memory { IfErr result (λ fault. fault ≢ EspFault.Memory) }
+    {
+        let (number, pad) = self.next_packet(payload)?;
+        write_without_check_value(room, &self.association, number, next, payload, pad);
         self.last = number;
         Ok(number)
     }
@@ -291,7 +309,22 @@ impl Outbound {
         }
     }
 
-    // The sequence number and the padding of the next packet, for which there is room from then on.
+    // The sequence number and the padding of the next packet.
+    fn next_packet(&self, payload: &[u8]) -> Result<(u64, usize), EspFault>
+        ensures ready { IfOk result (λ found. IsReady self.now payload.now found.0 found.1) }
+        ensures refused { IfErr result (IsSealRefusal self.now payload.now) }
+        ensures memory { IfErr result (λ fault. fault ≢ EspFault.Memory) }
+    {
+        let Some(number) = self.association.number_after(self.last) else {
+            return Err(EspFault::Exhausted);
+        };
+        if payload.len() > PAYLOAD_LIMIT {
+            return Err(EspFault::PayloadSize);
+        }
+        Ok((number, least_padding(payload.len())))
+    }
+
+    // The same, with room for the packet behind what stands in a buffer.
     fn prepare(&self, payload: &[u8], out: &mut Vec<u8>) -> Result<(u64, usize), EspFault>
         ensures ready { IfOk result (λ found. IsReady self.now payload.now found.0 found.1) }
         ensures enough { IfOk result (λ found.
@@ -303,13 +336,7 @@ impl Outbound {
             → IfErr result (λ fault. fault ≢ EspFault.Memory) }
         ensures capacity { vec_capacity out.old ≤ vec_capacity out.new }
     {
-        let Some(number) = self.association.number_after(self.last) else {
-            return Err(EspFault::Exhausted);
-        };
-        if payload.len() > PAYLOAD_LIMIT {
-            return Err(EspFault::PayloadSize);
-        }
-        let pad = least_padding(payload.len());
+        let (number, pad) = self.next_packet(payload)?;
         if out
             .reserve(HEAD + payload.len() + pad + TAIL + CHECK)
             .is_err()
@@ -348,6 +375,37 @@ fn append_without_check_value(
             &[0; CHECK],
         ],
     );
+}
+
+// Writes a packet at the beginning of a room that holds it, with zeros in the place of its ICV.
+fn write_without_check_value(
+    room: &mut [u8],
+    association: &Sa,
+    number: u64,
+    next: u8,
+    payload: &[u8],
+    pad: usize,
+)
+    requires word { pad < 4 }
+    requires fits { HEAD + length payload.now + pad + TAIL + CHECK ≤ length room.old }
+    ensures { room.new ≡ ((head association.now number ++ payload.now ++ trailer pad next) ++ replicate 16 0)
+        ++ drop (HEAD + length payload.now + pad + TAIL + CHECK) room.old }
+{
+    let padding = HEAD + payload.len();
+    let tail = padding + pad;
+    write_at(room, 0, &head_of(association.spi, number));
+    write_at(room, HEAD, payload);
+    write_at(room, padding, &PADDING[..pad]);
+    write_at(room, tail, &[pad as u8, next]);
+    write_at(room, tail + TAIL, &[0; CHECK]);
+}
+
+// Writes a part of a packet at its place in a room; what stands before it and behind it stays.
+fn write_at(room: &mut [u8], place: usize, part: &[u8])
+    requires { place + length part.now ≤ length room.old }
+    ensures { room.new ≡ take place room.old ++ part.now ++ drop (place + length part.now) room.old }
+{
+    room[place..place + part.len()].copy_from_slice(part);
 }
 
 // Appends the parts, for which there is room, one after the other.

@@ -5,7 +5,7 @@ ghost use Rattle.std.specs.Prelude.{IsTrue, if◌then◌else◌, IfSome, IfNone}
 ghost use Rattle.byteorder.specs.Endian.{big_bytes};
 ghost use Rattle.esp.specs.Packet.{IsContents, padding};
 ghost use Rattle.esp.specs.Judging.{IsJudgedLength, low_half};
-ghost use Rattle.esp.specs.Laying.{covered_size, pad_of};
+ghost use Rattle.esp.specs.Laying.{covered_size, packet_size, pad_of};
 
 use byteorder::{BigEndian, ByteOrder};
 
@@ -30,7 +30,7 @@ pub const PACKET_LIMIT: usize = 16_664;
 
 /// The least padding with which payload, padding, pad length and next header fill whole words of four octets.
 pub fn least_padding(payload: usize) -> usize
-    requires { payload ≤ PAYLOAD_LIMIT }
+    requires { payload + 29 < 2 ^ 64 }
     ensures value { result ≡ pad_of payload }
     ensures aligned { (payload + result + 2) % 4 ≡ 0 }
     ensures least { result < 4 }
@@ -44,6 +44,14 @@ pub fn covered_size(payload: usize) -> usize
     ensures { result ≡ covered_size payload }
 {
     HEAD + payload + least_padding(payload) + TAIL
+}
+
+/// The octets of the packet of a payload of so many: from 26 to 29 more, with the least padding.
+pub fn packet_size(payload: usize) -> usize
+    requires { payload + 29 < 2 ^ 64 }
+    ensures { result ≡ packet_size payload }
+{
+    HEAD + payload + least_padding(payload) + TAIL + CHECK
 }
 
 /// Whether a packet of so many octets is judged at all.

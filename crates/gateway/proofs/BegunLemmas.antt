@@ -1,11 +1,12 @@
 -- A gateway beside one that holds the same, before anything is left out.
 use Rattle.std.proofs.Common.{◌≡◌, List, [], ◌∷◌, Option, Some, None, map, refl, sym, ap, ◌∙◌}
+use Rattle.std.specs.Cmp.{nat_cmp_total}
+use Rattle.std.specs.FinMap as numbers
 use Rattle.std.specs.List.{filter}
 use Rattle.std.specs.Option.{option_map}
 use Rattle.sadb.specs.Database.{pair_at, PairMap}
 use Rattle.sadb.specs.declared.pair.Pair.{Pair}
 use Rattle.association.specs.declared.phase.Association.{Association}
-use Rattle.requests.proofs.EntryLemmas.{same_map}
 use Rattle.gateway.specs.Contents.{state_content}
 use Rattle.gateway.specs.States.{State}
 use Rattle.gateway.proofs.RenamedLaws.{PairLaws}
@@ -27,7 +28,9 @@ same_found None = refl
 same_found (Some p) = refl
 
 same_pairs : PairLaws itself → (pairs : PairMap) → renamed_pairs itself pairs ≡ pairs
-same_pairs laws pairs = same_map (renamed_pairs itself pairs) pairs (λ serial. laws.at pairs serial ∙ same_found (pair_at pairs serial))
+same_pairs laws pairs =
+    numbers.same_map nat_cmp_total numbers.nat_cmp-IsAntisymmetric (renamed_pairs itself pairs) pairs
+    (λ serial. laws.at pairs serial ∙ same_found (pair_at pairs serial))
 
 whole : {C : Type 0} → (s : State C) → state_content (state_without none_yet s) ≡ state_content s
 whole {C} s = ap (λ (xs : List Association). state_content (record s { machine = record s.machine { held = record s.machine.held { associations = xs } } })) (all_kept s.machine.held.associations)

@@ -1,11 +1,12 @@
 -- Lists of IKE SAs and maps of SA pairs, where two renamings or two tests agree on what stands there.
 use Rattle.std.proofs.Common.{◌≡◌, ℕ, zero, suc, Bool, true, false, not, cond, List, [], ◌∷◌, ◌++◌, Option, Some, None, map, slice_get, refl, sym, ap, subst, ◌∙◌}
+use Rattle.std.specs.Cmp.{nat_cmp_total}
+use Rattle.std.specs.FinMap as numbers
 use Rattle.std.specs.List.{filter}
 use Rattle.std.specs.Option.{option_map}
 use Rattle.sadb.specs.Database.{pair_at, PairMap}
 use Rattle.sadb.specs.declared.pair.Pair.{Pair}
 use Rattle.association.specs.declared.phase.Association.{Association}
-use Rattle.requests.proofs.EntryLemmas.{same_map}
 use Rattle.gateway.proofs.RenamedLaws.{PairLaws}
 use Rattle.gateway.specs.Others.{stays}
 use Rattle.gateway.specs.Renaming.{renamed_association, renamed_pair, renamed_pairs}
@@ -68,5 +69,6 @@ same_pair_by r q None each = refl
 same_pair_by r q (Some p) each = ap (λ ike. Some (record p { ike = ike })) (each p refl)
 
 pub same_pairs : (r q : ℕ → ℕ) → PairLaws r → PairLaws q → (pairs : PairMap) → ((serial : ℕ) (p : Pair) → pair_at pairs serial ≡ Some p → q p.ike ≡ r p.ike) → renamed_pairs q pairs ≡ renamed_pairs r pairs
-same_pairs r q laws also pairs each = same_map (renamed_pairs q pairs) (renamed_pairs r pairs) (λ serial.
-    also.at pairs serial ∙ same_pair_by r q (pair_at pairs serial) (each serial) ∙ sym (laws.at pairs serial))
+same_pairs r q laws also pairs each =
+    numbers.same_map nat_cmp_total numbers.nat_cmp-IsAntisymmetric (renamed_pairs q pairs) (renamed_pairs r pairs)
+    (λ serial. also.at pairs serial ∙ same_pair_by r q (pair_at pairs serial) (each serial) ∙ sym (laws.at pairs serial))

@@ -1,7 +1,6 @@
 -- ESP packets that stand one behind the other in a buffer, and get their ICVs there.
-use Rattle.std.proofs.Common.{◌≡◌, ◌+◌, ◌-◌, ◌<◌, ◌≤◌, ◌++◌, ℕ, zero, suc, List, [], ◌∷◌, length, take, drop, get_or, refl, sym, ap, ◌∙◌, subst, arith, inl, inr, append_assoc, Option, Some, None, length-append, length-drop}
-use Rattle.std.specs.Prelude.{IfErr, IfOk, IfSome, Result, Ok, Err}
-use Rattle.std.specs.declared.alloc.AllocError.{AllocError}
+use Rattle.std.proofs.Common.{◌≡◌, ◌+◌, ◌-◌, ◌<◌, ◌≤◌, ◌++◌, ℕ, zero, suc, List, [], ◌∷◌, length, take, drop, get_or, refl, sym, ap, ◌∙◌, subst, arith, inl, append_assoc, Option, Some, None, length-append, length-drop}
+use Rattle.std.specs.Prelude.{IfSome}
 use Rattle.std.proofs.lemmas.List.{append-nil, drop-append-le, drop-drop, drop_all, drop_at, length-take-le, take-append-le, take_all, take_at, take_more}
 use Rattle.std.proofs.Math.Seq.{take-add}
 use borrow.Rule.Slice.PartMut.{put_mid}
@@ -11,21 +10,20 @@ use Rattle.esp.specs.declared.precomputed.Precomputed.{Precomputed}
 use Rattle.policy.specs.declared.entry.Entry.{Entry}
 use Rattle.sadb.specs.Database.{Database, PairMap}
 use Rattle.sadb.specs.Laying.{KeepsSenders, finished_at, finished_by}
-use Rattle.traffic.specs.Behind.{SendsBehind}
+use Rattle.traffic.specs.Behind.{SendsIn, laid_size}
 use Rattle.traffic.specs.Laying.{finished_outcome}
 use Rattle.traffic.specs.Outcomes.{Outcome, outcome_of_laid}
-use Rattle.traffic.specs.Sending.{IsToBeSealed, Sends}
+use Rattle.traffic.specs.Sending.{Sends}
 use Rattle.traffic.specs.declared.departure.Laid.{Laid}
 use Rattle.traffic.specs.declared.departure.Laid.TheVariants as laid
 use Rattle.effects.specs.Taking.{Meaning}
 use Rattle.ike.specs.Outputs.{no_trace}
 use Rattle.gateway.specs.Inputs.{Outward}
-use Rattle.gateway.specs.Outputs.{OutputView, view_of_outcome}
-use Rattle.gateway.specs.Rows.{AppendsTo, finished_row, octets_of, packet_in_row, said_of_laid}
+use Rattle.gateway.specs.Outputs.{view_of_outcome}
+use Rattle.gateway.specs.Rows.{LaysIn, finished_row, octets_of, packet_in_row, said_of_laid}
 use Rattle.gateway.specs.States.{State}
 use Rattle.gateway.specs.Steps.{SendsPacket, Traces}
 use Rattle.gateway.specs.declared.row.Span.{Span}
-use Rattle.gateway.proofs.LayingLemmas.{senders_same}
 use Rattle.gateway.proofs.PacketLemmas.{sending_keeps}
 
 -- ---- how many octets there are
@@ -187,53 +185,37 @@ row_done pairs spans before now at k count at_is within is =
 
 -- ---- what a packet that is laid comes to
 
-said_is : (pairs : PairMap) (what : Laid) (octets : Octets) → said_of_laid pairs (Ok what) octets ≡ view_of_outcome (finished_outcome pairs (outcome_of_laid what octets))
+said_is : (pairs : PairMap) (what : Laid) (octets : Octets) → said_of_laid pairs what octets ≡ view_of_outcome (finished_outcome pairs (outcome_of_laid what octets))
 said_is pairs (laid.Sealed child number) octets = refl
 said_is pairs (laid.Clear packet) octets = refl
 said_is pairs laid.Discarded octets = refl
 said_is pairs (laid.Dropped fault) octets = refl
 
-pub appends_sent : (entries : List Entry) (old : Database) (packet before : Octets) (result : Result Laid AllocError) (new : Database) (after : Octets)
-    → IfOk result (λ what. SendsBehind old entries packet before what new after) → IfErr result (λ _. IsToBeSealed old entries packet × (new ≡ old) × (after ≡ before))
-    → AppendsTo (λ said. SendsPacket entries old packet said new) before result new.pairs after
-appends_sent entries old packet before (Ok what) new after sends lacks = record {
-  appended = sends.appended;
-  after_is = sends.after_is;
-  is_appended = sends.is_appended;
-  said = inl (record { outcome = finished_outcome new.pairs (outcome_of_laid what sends.appended); sends = sends.became; output = said_is new.pairs what sends.appended });
-}
-appends_sent entries old packet before (Err none) new after sends lacks = record {
-  appended = [];
-  after_is = lacks.2 ∙ sym (append-nil before);
-  is_appended = refl;
-  said = inr (record { sealable = lacks.0; output = refl; unchanged = lacks.1 });
-}
+pub lays_sent : (entries : List Entry) (old : Database) (packet room : Octets) (what : Laid) (new : Database) (filled : Octets)
+    → SendsIn old entries packet room what new filled → LaysIn (λ said. SendsPacket entries old packet said new) (length packet) room what new.pairs filled
+lays_sent entries old packet room what new filled sends =
+    let sealed : Octets = take (laid_size what (length packet)) filled in
+    record {
+      said = inl (record { outcome = finished_outcome new.pairs (outcome_of_laid what sealed); sends = sends.became; output = said_is new.pairs what sealed });
+      behind = sends.behind;
+    }
 
-pub reserved_sent : (entries : List Entry) (old : Database) (packet before : Octets) (result : Result Laid AllocError) (new : Database) (after : Octets)
-    → IfOk result (λ what. SendsBehind old entries packet before what new after) → IfErr result (λ _. IsToBeSealed old entries packet × (new ≡ old) × (after ≡ before)) → new.reserved ≡ old.reserved
-reserved_sent entries old packet before (Ok what) new after sends lacks = sending_keeps old entries packet (finished_outcome new.pairs (outcome_of_laid what sends.appended)) new sends.became
-reserved_sent entries old packet before (Err none) new after sends lacks = ap (λ (d : Database). d.reserved) lacks.1
+pub reserved_sent : (entries : List Entry) (old : Database) (packet room : Octets) (what : Laid) (new : Database) (filled : Octets)
+    → SendsIn old entries packet room what new filled → new.reserved ≡ old.reserved
+reserved_sent entries old packet room what new filled sends =
+    sending_keeps old entries packet (finished_outcome new.pairs (outcome_of_laid what (take (laid_size what (length packet)) filled))) new sends.became
 
 pub senders_sent : ((old new : Database) (entries : List Entry) (packet : Octets) (outcome : Outcome) → Sends old entries packet outcome new → KeepsSenders old.pairs new.pairs)
-    → (entries : List Entry) (old : Database) (packet before : Octets) (result : Result Laid AllocError) (new : Database) (after : Octets)
-    → IfOk result (λ what. SendsBehind old entries packet before what new after) → IfErr result (λ _. IsToBeSealed old entries packet × (new ≡ old) × (after ≡ before)) → KeepsSenders old.pairs new.pairs
-senders_sent stay entries old packet before (Ok what) new after sends lacks = stay old new entries packet (finished_outcome new.pairs (outcome_of_laid what sends.appended)) sends.became
-senders_sent stay entries old packet before (Err none) new after sends lacks = senders_same old new lacks.1
-
--- the output is that of something larger
-pub appends_as : (one another : OutputView → Type 0) → ((said : OutputView) → one said → another said) → (before : Octets) (what : Result Laid AllocError) (pairs : PairMap) (after : Octets)
-    → AppendsTo one before what pairs after → AppendsTo another before what pairs after
-appends_as one another leads before what pairs after is = record {
-  appended = is.appended;
-  after_is = is.after_is;
-  is_appended = is.is_appended;
-  said = leads (said_of_laid pairs what is.appended) is.said;
-}
+    → (entries : List Entry) (old : Database) (packet room : Octets) (what : Laid) (new : Database) (filled : Octets)
+    → SendsIn old entries packet room what new filled → KeepsSenders old.pairs new.pairs
+senders_sent stay entries old packet room what new filled sends =
+    stay old new entries packet (finished_outcome new.pairs (outcome_of_laid what (take (laid_size what (length packet)) filled))) sends.became
 
 -- the packet is all that a step of the gateway takes
-pub traces_appended : {C : Type 0} (meaning : Meaning) (old : State C) (packet before : Octets) (what : Result Laid AllocError) (table : Database) (after : Octets)
-    → AppendsTo (λ said. SendsPacket old.entries old.table packet said table) before what table.pairs after
-    → AppendsTo (λ said. Traces meaning (Outward packet) old said no_trace (record old { table = table })) before what table.pairs after
-traces_appended {C} meaning old packet before what table after is =
-    appends_as (λ said. SendsPacket old.entries old.table packet said table) (λ said. Traces meaning (Outward packet) old said no_trace (record old { table = table }))
-    (λ said sends. record { kept = refl; does = (record { machine = refl; traced = refl }, sends) }) before what table.pairs after is
+pub traces_laid : {C : Type 0} (meaning : Meaning) (old : State C) (packet room : Octets) (what : Laid) (table : Database) (filled : Octets)
+    → LaysIn (λ said. SendsPacket old.entries old.table packet said table) (length packet) room what table.pairs filled
+    → LaysIn (λ said. Traces meaning (Outward packet) old said no_trace (record old { table = table })) (length packet) room what table.pairs filled
+traces_laid {C} meaning old packet room what table filled lays = record {
+  said = record { kept = refl; does = (record { machine = refl; traced = refl }, lays.said) };
+  behind = lays.behind;
+}

@@ -1,12 +1,12 @@
 -- What every gateway has is kept by each step.
 use Rattle.std.proofs.Common.{◌≡◌, inl, inr, ℕ, List, [], ◌∷◌, refl, sym, ap, ◌∙◌, subst, Some, None}
-use Rattle.std.specs.Prelude.{Result, Ok, Err, slice_get}
-use Rattle.std.specs.declared.alloc.AllocError.{AllocError}
+use Rattle.std.specs.Prelude.{slice_get, length, take}
 use Rattle.base.specs.Octets.{Octets}
 use Rattle.policy.specs.declared.entry.Entry.{Entry}
 use Rattle.sadb.specs.Database.{empty_table, pair_at, Database, PairMap}
 use Rattle.sadb.specs.declared.pair.Pair.{Pair}
 use Rattle.sadb.specs.Laying.{finished_at}
+use Rattle.traffic.specs.Behind.{laid_size}
 use Rattle.traffic.specs.Outcomes.{outcome_of_arrival}
 use Rattle.traffic.specs.declared.arrival.Arrival.{Arrival}
 use Rattle.traffic.specs.declared.arrival.Arrival.TheVariants as arrival
@@ -29,7 +29,7 @@ use Rattle.gateway.specs.LawsOfRuns.{EveryRunKeepsItsPromises}
 use Rattle.gateway.specs.Outputs.{output_view, view_of_outcome, OutputView}
 use Rattle.gateway.specs.Promises.{KeepsPromises}
 use Rattle.gateway.specs.Staying.{HasWhatStays, WhatEveryGatewayHasStays}
-use Rattle.gateway.specs.Rows.{said_of_laid, AppendsTo}
+use Rattle.gateway.specs.Rows.{said_of_laid, LaysIn}
 use Rattle.gateway.specs.Runs.{Runs, StepsAs}
 use Rattle.gateway.specs.States.{IsSoundState, State}
 use Rattle.gateway.specs.Steps.{DoesInput, SendsPacket, StepsIke, Traces}
@@ -51,19 +51,17 @@ none_to_stand {C} s start is = record {
 }
 
 -- the output that tells what was laid
-abbrev output_of_laid : PairMap → Result Laid AllocError → Octets → Output
-output_of_laid pairs (Ok (laid.Sealed child number)) octets = output.Sealed child number (finished_at pairs child number octets)
-output_of_laid pairs (Ok (laid.Clear packet)) octets = output.Clear packet
-output_of_laid pairs (Ok laid.Discarded) octets = output.Discarded
-output_of_laid pairs (Ok (laid.Dropped fault)) octets = output.Dropped (reason.Packet fault)
-output_of_laid pairs (Err none) octets = output.Refused reason.Memory
+abbrev output_of_laid : PairMap → Laid → Octets → Output
+output_of_laid pairs (laid.Sealed child number) octets = output.Sealed child number (finished_at pairs child number octets)
+output_of_laid pairs (laid.Clear packet) octets = output.Clear packet
+output_of_laid pairs laid.Discarded octets = output.Discarded
+output_of_laid pairs (laid.Dropped fault) octets = output.Dropped (reason.Packet fault)
 
-laid_is : (pairs : PairMap) (what : Result Laid AllocError) (octets : Octets) → said_of_laid pairs what octets ≡ output_view (output_of_laid pairs what octets)
-laid_is pairs (Ok (laid.Sealed child number)) octets = refl
-laid_is pairs (Ok (laid.Clear packet)) octets = refl
-laid_is pairs (Ok laid.Discarded) octets = refl
-laid_is pairs (Ok (laid.Dropped fault)) octets = refl
-laid_is pairs (Err none) octets = refl
+laid_is : (pairs : PairMap) (what : Laid) (octets : Octets) → said_of_laid pairs what octets ≡ output_view (output_of_laid pairs what octets)
+laid_is pairs (laid.Sealed child number) octets = refl
+laid_is pairs (laid.Clear packet) octets = refl
+laid_is pairs laid.Discarded octets = refl
+laid_is pairs (laid.Dropped fault) octets = refl
 
 -- the output that tells what came of an ESP packet
 abbrev pub output_of_arrival : Arrival → Output
@@ -131,11 +129,12 @@ module _ (P : Machine → Type 0) (meaning : Meaning) (entries : List Entry) (ol
   machine_stays (input.Outward packet) does = same_machine does.0.machine
   machine_stays (input.Inward packet) does = same_machine does.0.machine
 
--- a packet that is laid behind others
-pub stays_laid : {C : Type 0} (meaning_of : C → Meaning) → WhatEveryGatewayHasStays C → (packet before : Octets) (what : Result Laid AllocError) (old : State C) (table : Database) (after : Octets)
-    → IsSoundState old → AppendsTo (λ said. SendsPacket old.entries old.table packet said table) before what table.pairs after → HasWhatStays old → HasWhatStays (record old { table = table })
-stays_laid {C} meaning_of stays packet before what old table after sound is was =
-    let sends : SendsPacket old.entries old.table packet (output_view (output_of_laid table.pairs what is.appended)) table =
-    subst (λ (v : OutputView). SendsPacket old.entries old.table packet v table) (laid_is table.pairs what is.appended) is.said in
-    stays meaning_of (Outward packet) (output_of_laid table.pairs what is.appended) no_trace old (record old { table = table }) sound
+-- a packet that is laid
+pub stays_laid : {C : Type 0} (meaning_of : C → Meaning) → WhatEveryGatewayHasStays C → (packet room : Octets) (what : Laid) (old : State C) (table : Database) (filled : Octets)
+    → IsSoundState old → LaysIn (λ said. SendsPacket old.entries old.table packet said table) (length packet) room what table.pairs filled → HasWhatStays old → HasWhatStays (record old { table = table })
+stays_laid {C} meaning_of stays packet room what old table filled sound is was =
+    let sealed : Octets = take (laid_size what (length packet)) filled in
+    let sends : SendsPacket old.entries old.table packet (output_view (output_of_laid table.pairs what sealed)) table =
+    subst (λ (v : OutputView). SendsPacket old.entries old.table packet v table) (laid_is table.pairs what sealed) is.said in
+    stays meaning_of (Outward packet) (output_of_laid table.pairs what sealed) no_trace old (record old { table = table }) sound
     (record { kept = refl; does = (record { machine = refl; traced = refl }, sends) }) was

@@ -1,9 +1,11 @@
 -- What a tick brings where some half-open IKE SAs are left out: of those comes nothing.
-use Rattle.std.proofs.Common.{◌≡◌, ℕ, ◌++◌, ◌∷◌, [], Bool, true, false, cond, not, List, map, Some, ap, refl, sym, ◌∙◌, subst}
+use Rattle.std.proofs.Common.{◌≡◌, ℕ, ◌++◌, ◌∷◌, [], Bool, true, false, cond, not, List, map, Option, Some, None, ap, refl, sym, ◌∙◌, subst}
+use Rattle.std.specs.Cmp.{nat_cmp_total}
 use Rattle.std.specs.FinMap as numbers
-use Rattle.std.specs.List.{filter}
+use Rattle.std.specs.List.{filter, list_any}
+use Rattle.std.specs.Ordering.{nat_cmp}
+use Rattle.std.proofs.lemmas.List.{nil_from_length}
 use Rattle.std.proofs.lemmas.List.Elements.{filter-append}
-use Rattle.requests.proofs.OrderLemmas.{filtered_none, find, found_none}
 use Rattle.sadb.specs.Database.{Database}
 use Rattle.association.specs.declared.phase.Association.{Association}
 use Rattle.association.specs.declared.phase.Phase.{Phase}
@@ -22,16 +24,25 @@ pub record IsIdle (a : Association) : Type 0 where
   pub half : IsHalfOpen a.phase
   pub waits : SuitPhase a.phase a.outgoing.outstanding
 
-none_waits : (a : Association) → IsIdle a → (n : ℕ) (r : Request) → find n (outstanding_of a) ≡ Some r → ⊥
-none_waits a idle n r there =
-    let may : MayBeOutstanding a.phase n r.purpose = idle.waits n r (numbers.get-entries a.outgoing.outstanding n ∙ there) in
-    subst (λ (p : Phase). MayBeOutstanding p n r.purpose) idle.half.is may
+none_waits : (a : Association) → IsIdle a → (n : ℕ) (r : Request) → numbers.get a.outgoing.outstanding n ≡ Some r → ⊥
+none_waits a idle n r there = subst (λ (p : Phase). MayBeOutstanding p n r.purpose) idle.half.is (idle.waits n r there)
+
+none_found : (found : Option Request) → ((r : Request) → found ≡ Some r → ⊥) → found ≡ None
+none_found None none = refl
+none_found (Some r) none = absurd (none r refl)
+
+none_outstanding : (a : Association) → IsIdle a → outstanding_of a ≡ []
+none_outstanding a idle =
+    let empty : a.outgoing.outstanding ≡ numbers.empty =
+    numbers.same_map nat_cmp_total numbers.nat_cmp-IsAntisymmetric a.outgoing.outstanding numbers.empty
+    (λ n. none_found (numbers.get a.outgoing.outstanding n) (none_waits a idle n) ∙ sym (numbers.get-empty nat_cmp n)) in
+    nil_from_length (outstanding_of a) (sym (numbers.len-entries a.outgoing.outstanding) ∙ ap numbers.len empty ∙ numbers.len-empty nat_cmp Request)
 
 not_failed : (now : ℕ) (a : Association) → IsIdle a → has_failed now a ≡ false
-not_failed now a idle = found_none (is_unanswered now) (outstanding_of a) (numbers.entries_sorted a.outgoing.outstanding) (λ n r there. absurd (none_waits a idle n r there))
+not_failed now a idle = ap (λ es. list_any (λ e. is_unanswered now e.1) es) (none_outstanding a idle)
 
 none_due : (now : ℕ) (a : Association) → IsIdle a → due_of now a ≡ []
-none_due now a idle = ap (map (resent a)) (filtered_none (is_due now) (outstanding_of a) (numbers.entries_sorted a.outgoing.outstanding) (λ n r there. absurd (none_waits a idle n r there)))
+none_due now a idle = ap (λ es. map (resent a) (filter (λ e. is_due now e.1) es)) (none_outstanding a idle)
 
 module _ (strange : ℕ → Bool) where
   abbrev others_sent : List Resent → List Resent

@@ -1,10 +1,10 @@
--- Outbound packets whose ESP packets stand one behind the other in a buffer, and get their ICVs afterwards.
-use Rattle.std.specs.Prelude.{◌≡◌, ◌+◌, ◌++◌, ℕ, zero, suc, List, [], ◌∷◌, Result, Ok, Err, take, drop}
-use Rattle.std.specs.declared.alloc.AllocError.{AllocError}
+-- Outbound packets whose ESP packets stand one behind the other in a room, and get their ICVs afterwards.
+use Rattle.std.specs.Prelude.{◌+◌, ◌++◌, ℕ, zero, suc, List, [], ◌∷◌, take, drop}
 use Rattle.base.specs.Octets.{Octets}
+use Rattle.esp.specs.Laying.{StaysBehind}
 use Rattle.sadb.specs.Database.{PairMap}
 use Rattle.sadb.specs.Laying.{finished_at}
-use Rattle.traffic.specs.Behind.{IsAppended}
+use Rattle.traffic.specs.Behind.{laid_size}
 use Rattle.traffic.specs.declared.departure.Laid.{Laid}
 use Rattle.traffic.specs.declared.departure.Laid.TheVariants as laid
 use Rattle.gateway.specs.Outputs.{OutputView}
@@ -30,22 +30,14 @@ packet_in_row (span ∷ spans) octets zero = take span.length octets
 packet_in_row (span ∷ spans) octets (suc i) = packet_in_row spans (drop span.length octets) i
 
 -- the output for a packet whose ESP packet, if it goes protected, is these octets, once they have their ICV
-abbrev pub said_of_laid : PairMap → Result Laid AllocError → Octets → OutputView
-said_of_laid pairs (Ok (laid.Sealed child number)) octets = view.Sealed child number (finished_at pairs child number octets)
-said_of_laid pairs (Ok (laid.Clear packet)) octets = view.Clear packet.now
-said_of_laid pairs (Ok laid.Discarded) octets = view.Discarded
-said_of_laid pairs (Ok (laid.Dropped fault)) octets = view.Dropped (reason.Packet fault)
-said_of_laid pairs (Err none) octets = view.Refused reason.Memory
+abbrev pub said_of_laid : PairMap → Laid → Octets → OutputView
+said_of_laid pairs (laid.Sealed child number) octets = view.Sealed child number (finished_at pairs child number octets)
+said_of_laid pairs (laid.Clear packet) octets = view.Clear packet.now
+said_of_laid pairs laid.Discarded octets = view.Discarded
+said_of_laid pairs (laid.Dropped fault) octets = view.Dropped (reason.Packet fault)
 
--- nothing is appended but an ESP packet
-abbrev pub IsAppendedIf : Result Laid AllocError → Octets → Type 0
-IsAppendedIf (Ok what) octets = IsAppended what octets
-IsAppendedIf (Err none) octets = octets ≡ []
-
--- An ESP packet is appended to the buffer, or nothing is. Once the ESP packet has its ICV, this is the
--- output.
-pub record AppendsTo (says : OutputView → Type 0) (before : Octets) (what : Result Laid AllocError) (pairs : PairMap) (after : Octets) : Type 0 where
-  pub appended : Octets
-  pub after_is : after ≡ before ++ appended
-  pub is_appended : IsAppendedIf what appended
-  pub said : says (said_of_laid pairs what appended)
+-- The ESP packet of a packet of so many octets stands at the beginning of a room, if the packet goes protected.
+-- What is behind it stands there still. Once the ESP packet has its ICV, this is the output.
+pub record LaysIn (says : OutputView → Type 0) (octets : ℕ) (room : Octets) (what : Laid) (pairs : PairMap) (filled : Octets) : Type 0 where
+  pub said : says (said_of_laid pairs what (take (laid_size what octets) filled))
+  pub behind : StaysBehind (laid_size what octets) room filled

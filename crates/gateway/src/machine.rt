@@ -1,6 +1,5 @@
 //! A gateway, and one step of it.
-ghost use Rattle.std.specs.Prelude.{◌≡◌, ◌+◌, ◌<◌, ◌≤◌, IfSome, IsOk, length, map, vec_len};
-ghost use Rattle.std.specs.Vec.{vec_capacity};
+ghost use Rattle.std.specs.Prelude.{◌≡◌, ◌+◌, ◌<◌, ◌≤◌, IfSome, length, map};
 ghost use Rattle.std.specs.Option.{option_copied};
 ghost use Rattle.sadb.specs.Database.{IsSoundTable, IsStart};
 ghost use Rattle.ike.specs.Machines.{keys_of_serial};
@@ -18,7 +17,7 @@ ghost use Rattle.gateway.specs.Lengths.{AreGiven};
 ghost use Rattle.gateway.specs.Once.{HasOneResult};
 ghost use Rattle.gateway.specs.Outputs.{output_view, view_of_outcome};
 ghost use Rattle.gateway.specs.Staying.{RepliesAreKept, WindowsAreConfigured};
-ghost use Rattle.gateway.specs.Rows.{AppendsTo, finished_row, octets_of};
+ghost use Rattle.gateway.specs.Rows.{LaysIn, finished_row, octets_of};
 ghost use Rattle.gateway.specs.States.{new_gateway};
 ghost use Rattle.gateway.specs.Steps.{Steps, Traces};
 ghost use Rattle.effects.specs.Taking.{meaning_of};
@@ -30,7 +29,7 @@ use crate::given::{tell_their_lengths, tells_its_lengths};
 use crate::laws::{steps_are_determined, what_every_gateway_has_stays};
 use crate::laying::finish_all;
 use crate::row::finish_row;
-use crate::stepping::{lay, lay_behind, receive, take};
+use crate::stepping::{lay, lay_in, receive, take};
 use crate::{Arrival, Input, Laid, Output, Span, Traced};
 use association::Association;
 use esp::{GROUP, PACKETS_LEAST, Precomputed};
@@ -41,7 +40,7 @@ use ike::laws::{keys_stay_whole, no_spi_is_lost, what_is_due_comes_in_time};
 use policy::Policy;
 use sadb::Table;
 use setup::Config;
-use std::alloc::{AllocError, Global};
+use std::alloc::Global;
 use std::marker::Model;
 use suite::{Agreement, KeyRecord, Proof, Sealer};
 
@@ -329,40 +328,35 @@ impl<C: Sealer + Agreement + Proof> Gateway<C> {
         finish_all(&self.table, laid, self.lanes);
     }
 
-    /// Takes an outbound packet as [`lay`](Gateway::lay) does, but appends the ESP packet to what stands in a
-    /// buffer. So those of a list stand one behind the other, and take memory only where the buffer has to
-    /// grow. [`finish_behind`](Gateway::finish_behind) writes their ICVs.
+    /// Takes an outbound packet as [`lay`](Gateway::lay) does, but writes the ESP packet at the beginning of a
+    /// room of the caller's, which has 29 octets more than the packet. So those of a list stand one behind the
+    /// other, and take no memory. [`finish_behind`](Gateway::finish_behind) writes their ICVs.
     ///
-    /// The only error is that there is no memory for the ESP packet: a step would refuse the packet then
-    /// ([`Reason::Memory`](crate::Reason), E20). The buffer stays as it was then, and also where the packet
-    /// doesn't go protected.
-    pub fn lay_behind<'a>(
-        &mut self,
-        packet: &'a [u8],
-        out: &mut Vec<u8>,
-    ) -> Result<Laid<'a>, AllocError>
-        ensures traced { AppendsTo
+    /// Of how many octets the ESP packet is tells [`esp::packet_size`]; what stands behind it stays. Where the
+    /// packet doesn't go protected, nothing is written.
+    pub fn lay_in<'a>(&mut self, packet: &'a [u8], room: &mut [u8]) -> Laid<'a>
+        requires { length packet.now + 29 ≤ length room.old }
+        ensures traced { LaysIn
             (λ said. Traces
             (meaning_of C.Sealer C.Agreement C.Proof self.old.caller)
             (Outward packet.now) self.old said no_trace self.new)
-            out.old.items result self.new.table.pairs out.new.items }
+            (length packet.now) room.old result self.new.table.pairs room.new }
         ensures senders { KeepsSenders self.old.table.pairs self.new.table.pairs }
-        ensures room { vec_len out.old + (length packet.now + 29) ≤ vec_capacity out.old → IsOk result }
     {
         what_every_gateway_has_stays::<C>();
         self.invariants_hold();
-        lay_behind(
+        lay_in(
             packet,
             &self.ike,
             &mut self.table,
             &mut self.flows,
             &self.policy,
-            out,
+            room,
         )
     }
 
-    /// Writes the ICV into each of up to 64 ESP packets that [`lay_behind`](Gateway::lay_behind) appended,
-    /// one behind the other from the buffer's beginning on; what stands behind them stays. Else as
+    /// Writes the ICV into each of up to 64 ESP packets that [`lay_in`](Gateway::lay_in) wrote one behind the
+    /// other, from the first octet here on; what stands behind them stays. Else as
     /// [`finish`](Gateway::finish).
     pub fn finish_behind(&self, spans: &[Span], packets: &mut [u8])
         requires few { length spans.now ≤ GROUP }

@@ -1,4 +1,4 @@
-//! ICVs of ESP packets that stand one behind the other in a buffer, computed side by side.
+//! ICVs of ESP packets that stand one behind the other, computed side by side.
 ghost use Rattle.std.specs.Prelude.{◌≡◌, ◌≤◌, length};
 ghost use Rattle.esp.specs.Precomputed.{ArePrecomputed, AreQuestions};
 ghost use Rattle.gateway.specs.Rows.{finished_row, octets_of, packet_in_row};
@@ -7,7 +7,7 @@ use crate::load::Load;
 use esp::{FEW, GROUP, Precomputed, Question, no_values, precompute, value_at};
 use sadb::Table;
 
-/// An ESP packet that was laid in a buffer, behind those before it.
+/// An ESP packet that was laid, behind those before it.
 #[derive(Clone, Copy, Debug, PartialEq, Eq)]
 pub struct Span {
     /// The serial of the SA pair that laid it.
@@ -18,7 +18,7 @@ pub struct Span {
     pub length: usize,
 }
 
-/// Writes the ICV into each of the ESP packets that stand one behind the other from the buffer's beginning:
+/// Writes the ICV into each of the ESP packets that stand one behind the other from the first octet on:
 /// computed side by side where that is faster (`Load::gains`), else one by one.
 pub fn finish_row(table: &Table, spans: &[Span], packets: &mut [u8], least: usize)
     requires few { length spans.now ≤ GROUP }

@@ -1,6 +1,5 @@
 //! One input of each kind.
-ghost use Rattle.std.specs.Prelude.{◌≡◌, ◌+◌, ◌≤◌, IfSome, IsOk, MatchOption, length, vec_len};
-ghost use Rattle.std.specs.Vec.{vec_capacity};
+ghost use Rattle.std.specs.Prelude.{◌≡◌, ◌+◌, ◌≤◌, IfSome, MatchOption, length};
 ghost use Rattle.esp.specs.Precomputed.{IsPrecomputed};
 ghost use Rattle.flows.specs.Memory.{AllRight, HoldsNone};
 ghost use Rattle.flows.specs.Staying.{NoneComes};
@@ -11,7 +10,7 @@ ghost use Rattle.gateway.specs.Groups.{packet_in};
 ghost use Rattle.gateway.specs.Inputs.{input_view};
 ghost use Rattle.gateway.specs.Laying.{finished_output};
 ghost use Rattle.gateway.specs.Outputs.{output_view, view_of_outcome};
-ghost use Rattle.gateway.specs.Rows.{AppendsTo};
+ghost use Rattle.gateway.specs.Rows.{LaysIn};
 ghost use Rattle.sadb.specs.Laying.{KeepsSenders};
 ghost use Rattle.gateway.specs.Steps.{AdmitsPacket, DoesInput, ReceivesPacket, SendsPacket, StepsIke};
 ghost use Rattle.effects.specs.Taking.{meaning_of};
@@ -29,7 +28,7 @@ use ike::laws::{
 use ike::{Ike, IkeInput, MadeChild};
 use policy::Policy;
 use sadb::Table;
-use std::alloc::{AllocError, Global};
+use std::alloc::Global;
 use suite::{Agreement, Proof, Sealer};
 use traffic::laws::{no_pair_comes, senders_stay};
 use traffic::{Arrival, Laid, admit, receive_ahead};
@@ -228,48 +227,48 @@ pub(crate) fn lay<'a>(
     lay_packet(alloc, table, flows, policy, packet)
 }
 
-/// Lays an outbound packet, and appends its ESP packet to a buffer.
-pub(crate) fn lay_behind<'a>(
+/// Lays an outbound packet, with its ESP packet at the beginning of a room.
+pub(crate) fn lay_in<'a>(
     packet: &'a [u8],
     ike: &Ike,
     table: &mut Table,
     flows: &mut FlowMemory,
     policy: &Policy,
-    out: &mut Vec<u8>,
-) -> Result<Laid<'a>, AllocError>
+    room: &mut [u8],
+) -> Laid<'a>
     requires sound { IsSoundMachine ike.now table.old }
     requires reservations { AreReservationsHeld ike.now.held table.old }
     requires right { AllRight policy.now table.old.pairs flows.old }
-    ensures sent { AppendsTo (λ said. SendsPacket policy.now table.old packet.now said table.new)
-        out.old.items result table.new.pairs out.new.items }
+    requires fits { length packet.now + 29 ≤ length room.old }
+    ensures sent { LaysIn (λ said. SendsPacket policy.now table.old packet.now said table.new)
+        (length packet.now) room.old result table.new.pairs room.new }
     ensures sound { IsSoundMachine ike.now table.new }
     ensures reservations { AreReservationsHeld ike.now.held table.new }
     ensures right { AllRight policy.now table.new.pairs flows.new }
     ensures senders { KeepsSenders table.old.pairs table.new.pairs }
-    ensures room { vec_len out.old + (length packet.now + 29) ≤ vec_capacity out.old → IsOk result }
 {
     soundness_asks_for_reservations();
     no_spi_is_lost();
-    append_packet(table, flows, policy, packet, out)
+    lay_packet_in(table, flows, policy, packet, room)
 }
 
-fn append_packet<'a>(
+fn lay_packet_in<'a>(
     table: &mut Table,
     flows: &mut FlowMemory,
     policy: &Policy,
     packet: &'a [u8],
-    out: &mut Vec<u8>,
-) -> Result<Laid<'a>, AllocError>
-    requires { AllRight policy.now table.old.pairs flows.old }
-    ensures sent { AppendsTo (λ said. SendsPacket policy.now table.old packet.now said table.new)
-        out.old.items result table.new.pairs out.new.items }
+    room: &mut [u8],
+) -> Laid<'a>
+    requires right { AllRight policy.now table.old.pairs flows.old }
+    requires fits { length packet.now + 29 ≤ length room.old }
+    ensures sent { LaysIn (λ said. SendsPacket policy.now table.old packet.now said table.new)
+        (length packet.now) room.old result table.new.pairs room.new }
     ensures reserved { table.new.reserved ≡ table.old.reserved }
     ensures right { AllRight policy.now table.new.pairs flows.new }
     ensures senders { KeepsSenders table.old.pairs table.new.pairs }
-    ensures room { vec_len out.old + (length packet.now + 29) ≤ vec_capacity out.old → IsOk result }
 {
     senders_stay();
-    traffic::lay_behind(table, flows, policy, packet, out)
+    traffic::lay_in(table, flows, policy, packet, room)
 }
 
 fn send_packet<'a>(

@@ -455,14 +455,14 @@ opened_unchanged now x s new serial packet (Err fault) shown rest refused =
     λ not. (let same : new.pairs ≡ s.pairs = pairs_unchanged s.pairs new.pairs serial packet fault not refused in
     ap (table_of x) (rest ∙ (λ i. record s { pairs = same i })) ∙ shown)
 
--- after sealing, whatever came of it
-pub sealed_in : (x : GivenSpis) (s new : PairsBySerial) (serial next : ℕ) (payload before out : List ℕ) (after : ℕ → List ℕ) (result : Result ℕ EspFault)
+-- after sealing, whatever came of it; C is what else a refusal says
+pub sealed_in : (C : Type 0) (x : GivenSpis) (s new : PairsBySerial) (serial next : ℕ) (payload before : List ℕ) (after : ℕ → List ℕ) (result : Result ℕ EspFault)
     → IsTable x s → new ≡ record s { pairs = new.pairs }
-    → IfOk result (λ number. SealsPair s.pairs serial next payload before number new.pairs (after number)) → IfErr result (λ fault. SealRefusalAt s.pairs serial payload fault × (new ≡ s) × (out ≡ before))
+    → IfOk result (λ number. SealsPair s.pairs serial next payload before number new.pairs (after number)) → IfErr result (λ fault. SealRefusalAt s.pairs serial payload fault × (new ≡ s) × C)
     → IsTable x new
-sealed_in x s new serial next payload before out after (Ok number) sound rest sealed refused =
+sealed_in C x s new serial next payload before after (Ok number) sound rest sealed refused =
     changed_in x s new serial sealed.pair (record sealed.pair { outbound = sealed.outbound }) sound sealed.there refl rest sealed.changed
-sealed_in x s new serial next payload before out after (Err fault) sound rest sealed refused = subst (IsTable x) (sym refused.1) sound
+sealed_in C x s new serial next payload before after (Err fault) sound rest sealed refused = subst (IsTable x) (sym refused.1) sound
 
 -- what a table owes to its callers, from what its parts owe it
 pub all_sound : (now : Database) (x : GivenSpis) (s : PairsBySerial) → table_of x s ≡ now → IsTable x s → 1 ≤ s.next

@@ -1,15 +1,16 @@
 //! The SA pairs of a table, by their serials.
 ghost use Rattle.std.specs.Vec.{vec_capacity};
 ghost use Rattle.esp.specs.declared.fault.EspFault.{EspFault};
+ghost use Rattle.esp.specs.Laying.{StaysBehind, packet_size};
 ghost use Rattle.esp.specs.Precomputed.{IsPrecomputed};
-ghost use Rattle.std.specs.Prelude.{◌≢◌, length, vec_len, ◌≡◌, ◌+◌, ◌<◌, ◌≤◌, ◌^◌, ℕ, List, Some, None, IsOk, OnOk, IfOk, IfErr, IfSome, IfNone, IsSome, IsTrue, ◌↔◌};
+ghost use Rattle.std.specs.Prelude.{◌≢◌, [], length, take, vec_len, ◌≡◌, ◌+◌, ◌<◌, ◌≤◌, ◌^◌, ℕ, List, Some, None, IsOk, OnOk, IfOk, IfErr, IfSome, IfNone, IsSome, IsTrue, ◌↔◌};
 ghost use Rattle.std.specs.Option.{option_copied};
 ghost use Rattle.std.specs.FinMap as map;
 ghost use Rattle.policy.specs.Decisions.{Covers};
 ghost use Rattle.replay.specs.Window.{IsSoundWindow};
 ghost use Rattle.sadb.specs.declared.pair.Pair as held;
 ghost use Rattle.sadb.specs.Database.{BelongsTo, Carries, IsAfter, IsForPair, IsNextOf, IsOutbound, SealRefusalAt};
-ghost use Rattle.sadb.specs.Laying.{finished_at_behind};
+ghost use Rattle.sadb.specs.Laying.{finished_at, finished_at_behind};
 ghost use Rattle.sadb.specs.Storage.{MarksPair, OpensPair, RefusesPair, SealsPair, key_of};
 
 use crate::pair::{Pair, State};
@@ -203,6 +204,29 @@ impl Pairs {
     {
         let key = key(&self.keys, serial).unwrap();
         self.slab[key].outbound.lay(next, payload, out)
+    }
+
+    /// Lays a packet by an SA pair's outbound SA, at the beginning of a room.
+    pub fn lay_in(
+        &mut self,
+        serial: u32,
+        next: u8,
+        payload: &[u8],
+        room: &mut [u8],
+    ) -> Result<u64, EspFault>
+        requires there { IsSome (map.get self.old.pairs serial) }
+        requires fits { length payload.now + 29 ≤ length room.old }
+        ensures sealed { IfOk result (λ number.
+            SealsPair self.old.pairs serial next payload.now [] number self.new.pairs
+            (finished_at self.new.pairs serial number (take (packet_size (length payload.now)) room.new))) }
+        ensures behind { OnOk result (StaysBehind (packet_size (length payload.now)) room.old room.new) }
+        ensures refused { IfErr result (λ fault. SealRefusalAt self.old.pairs serial payload.now fault
+            × (self.new ≡ self.old) × (room.new ≡ room.old)) }
+        ensures memory { IfErr result (λ fault. fault ≢ EspFault.Memory) }
+        ensures rest { self.new ≡ record self.old { pairs = self.new.pairs } }
+    {
+        let key = key(&self.keys, serial).unwrap();
+        self.slab[key].outbound.lay_in(next, payload, room)
     }
 
     /// The next SA pair by serial.

@@ -1,5 +1,5 @@
 //! The SA table.
-ghost use Rattle.std.specs.Prelude.{◌≡◌, ◌≢◌, ◌+◌, ◌<◌, ◌≤◌, ℕ, List, Some, None, OnOk, IfOk, IfErr, IfSome, IfNone, IsOk, length, vec_len};
+ghost use Rattle.std.specs.Prelude.{◌≡◌, ◌≢◌, ◌+◌, [], take, ◌<◌, ◌≤◌, ℕ, List, Some, None, OnOk, IfOk, IfErr, IfSome, IfNone, IsOk, length, vec_len};
 ghost use Rattle.sadb.specs.Database.{IsStart, empty_table, IsFull, IsSpent, IsTableRefusal, IsAsBefore, Reserves, IsReserved, Releases, Installs};
 ghost use Rattle.sadb.specs.Database.{pair_at, IsThere, Removes, IsLive, Marks, HasInbound, IsInbound, IsSoundTable, IsAfter, Carries, IsOutbound};
 ghost use Rattle.sadb.specs.Database.{BelongsTo, IsForPair, IsNextOf, OpensAt, RefusesAt, RemovesAllOf, SealsAt, SealRefusalAt};
@@ -8,6 +8,7 @@ ghost use Rattle.std.specs.Vec.{vec_capacity};
 ghost use Rattle.sadb.specs.Laying.{finished_at, finished_at_behind};
 ghost use Rattle.sadb.specs.Storage.{RemovesIfOf};
 ghost use Rattle.esp.specs.declared.fault.EspFault.{EspFault};
+ghost use Rattle.esp.specs.Laying.{StaysBehind, packet_size};
 ghost use Rattle.esp.specs.Precomputed.{IsPrecomputed, IsQuestion};
 
 use crate::pairs::Pairs;
@@ -308,6 +309,29 @@ impl Table {
         ensures behind { length out.old.items ≤ length out.new.items }
     {
         self.pairs.lay(serial, next, payload, out)
+    }
+
+    /// Lays a packet as [`lay`](Table::lay) does, but at the beginning of a room of the caller's
+    /// ([`esp::Outbound::lay_in`]), which has 29 octets more than the payload. Refused as that is, but never
+    /// for memory.
+    pub fn lay_in(
+        &mut self,
+        serial: u32,
+        next: u8,
+        payload: &[u8],
+        room: &mut [u8],
+    ) -> Result<u64, EspFault>
+        requires there { IsThere self.old.pairs serial }
+        requires fits { length payload.now + 29 ≤ length room.old }
+        ensures sealed { IfOk result (λ number.
+            SealsAt self.old serial next payload.now [] number self.new
+            (finished_at self.new.pairs serial number (take (packet_size (length payload.now)) room.new))) }
+        ensures behind { OnOk result (StaysBehind (packet_size (length payload.now)) room.old room.new) }
+        ensures refused { IfErr result (λ fault. SealRefusalAt self.old.pairs serial payload.now fault
+            × (self.new ≡ self.old) × (room.new ≡ room.old)) }
+        ensures memory { IfErr result (λ fault. fault ≢ EspFault.Memory) }
+    {
+        self.pairs.lay_in(serial, next, payload, room)
     }
 
     /// Writes the ICV into a packet that the SA pair with this serial laid under this sequence number, as

@@ -1,10 +1,8 @@
 -- Packets on their way out that are laid first, and get their ICVs and their places in the room afterwards.
-use Rattle.std.proofs.Common.{◌≡◌, ◌+◌, ◌-◌, ◌≤◌, ℕ, List, [], ◌∷◌, ◌++◌, length, take, drop, arith, refl, sym, ap, ◌∙◌, subst, inl, inr, Option, Some, None, append_assoc, length-append, length-drop}
-use Rattle.std.specs.Prelude.{Result, Ok, Err}
-use Rattle.std.specs.declared.alloc.AllocError.{AllocError}
+use Rattle.std.proofs.Common.{◌≡◌, ◌≢◌, ◌+◌, ◌-◌, ◌≤◌, ℕ, List, [], ◌∷◌, ◌++◌, length, take, drop, arith, refl, sym, ap, ◌∙◌, subst, inl, inr, Option, Some, None, append_assoc, length-append, length-drop}
 use Rattle.std.proofs.lemmas.Bool.{cases_lt}
 use Rattle.std.proofs.Math.Seq.{take-add}
-use Rattle.std.proofs.lemmas.List.{append-nil, drop-append-le, drop-drop, drop_all, drop_at, length-take-le, take-append-drop, take-append-le, take_at, take_rest}
+use Rattle.std.proofs.lemmas.List.{append-nil, drop-append-le, drop-drop, drop_all, drop_at, length-take-le, take-append-drop, take-append-le, take_at}
 use borrow.Rule.Slice.PartMut.{put_mid}
 use Rattle.base.specs.Octets.{Octets}
 use Rattle.caller_peer.specs.declared.shared_key.PeerCaller.{PeerCaller}
@@ -14,7 +12,9 @@ use Rattle.esp.specs.Packet.{check_value}
 use Rattle.esp.specs.declared.sa.Sa.{Sa}
 use Rattle.gateway.specs.Inputs.{Outward}
 use Rattle.gateway.specs.Outputs.{OutputView}
-use Rattle.gateway.specs.Rows.{AppendsTo, IsAppendedIf, finished_row, octets_of, said_of_laid}
+use Rattle.gateway.specs.Outputs as view
+use Rattle.gateway.specs.declared.fault.Reason.TheVariants as reason
+use Rattle.gateway.specs.Rows.{LaysIn, finished_row, octets_of, said_of_laid}
 use Rattle.gateway.specs.Runs.{Runs}
 use Rattle.gateway.specs.States.{State}
 use Rattle.gateway.specs.Steps.{Traces}
@@ -24,7 +24,7 @@ use Rattle.ike.specs.Outputs.{no_trace}
 use Rattle.mac.proofs.HmacLemmas.{length-icv_sha256}
 use Rattle.sadb.specs.Database.{PairMap}
 use Rattle.sadb.specs.Laying.{KeepsSenders, finished_at, finished_by, sender_at}
-use Rattle.traffic.specs.Behind.{IsAppended}
+use Rattle.traffic.specs.Behind.{IsAppended, laid_size}
 use Rattle.traffic.specs.declared.departure.Laid.{Laid}
 use Rattle.traffic.specs.declared.departure.Laid.TheVariants as laid
 use Rattle.sukperin.proofs.OutwardLemmas.{sealed_fits}
@@ -38,7 +38,6 @@ use Rattle.sukperin.specs.declared.hosted.Hosted.{Hosted}
 use Rattle.sukperin.specs.declared.lists.SukPlace.{SukPlace}
 use Rattle.sukperin.specs.declared.output.SukOutput.{SukOutput}
 use Rattle.sukperin.specs.declared.refusal.Refusal.{Refusal}
-use Rattle.sukperin.specs.declared.refusal.Refusal.TheVariants.{Memory}
 
 -- ---- an ICV changes no length
 
@@ -78,7 +77,7 @@ finished_none pairs octets none = empty_is (finished_at pairs 0 0 octets) (finis
 
 -- the ESP packet of a packet that was laid is its part of the buffer, once it has its ICV
 span_sealed : (pairs : PairMap) (n : ℕ) (what : Laid) (octets : Octets) → IsAppended what octets
-    → finished_at pairs (span_of_laid n what).child (span_of_laid n what).number octets ≡ sealed_in (said_of_laid pairs (Ok what) octets)
+    → finished_at pairs (span_of_laid n what).child (span_of_laid n what).number octets ≡ sealed_in (said_of_laid pairs what octets)
 span_sealed pairs n (laid.Sealed child number) octets is = refl
 span_sealed pairs n (laid.Clear packet) octets is = finished_none pairs octets is
 span_sealed pairs n laid.Discarded octets is = finished_none pairs octets is
@@ -91,12 +90,19 @@ span_size n laid.Discarded octets is none = sym (ap length none)
 span_size n (laid.Dropped fault) octets is none = sym (ap length none)
 
 -- what is told of it is told of the packet with its ICV
-told_laid : (pairs : PairMap) (begin n : ℕ) (what : Laid) (octets : Octets) → n ≡ length octets → told_of_laid begin n what ≡ told_from begin (said_of_laid pairs (Ok what) octets) no_trace
+told_laid : (pairs : PairMap) (begin n : ℕ) (what : Laid) (octets : Octets) → n ≡ length octets → told_of_laid begin n what ≡ told_from begin (said_of_laid pairs what octets) no_trace
 told_laid pairs begin n (laid.Sealed child number) octets is =
     ap (λ (k : ℕ). record (of_kind 9) { child = child; number = number; offset = begin; length = k }) (is ∙ sym (finished_size_by (sender_at pairs child) number octets))
 told_laid pairs begin n (laid.Clear packet) octets is = refl
 told_laid pairs begin n laid.Discarded octets is = refl
 told_laid pairs begin n (laid.Dropped fault) octets is = refl
+
+-- what is laid is refused for no want of memory
+none_lacking : (pairs : PairMap) (what : Laid) (octets : Octets) → said_of_laid pairs what octets ≢ view.Refused reason.Memory
+none_lacking pairs (laid.Sealed child number) octets = λ is. cc
+none_lacking pairs (laid.Clear packet) octets = λ is. cc
+none_lacking pairs laid.Discarded octets = λ is. cc
+none_lacking pairs (laid.Dropped fault) octets = λ is. cc
 
 -- ---- one packet more is laid
 
@@ -115,8 +121,8 @@ lays_as : (octets : Octets) (room : ℕ) (place : SukPlace) (used begin : ℕ) (
     → begin ≡ used + length buffer → begin ≤ room → IsPacketAt octets place packet → HasRoom packet (room - begin)
     → Traces (meaning_for old.caller) (Outward packet) old said no_trace new → KeepsSenders old.table.pairs new.table.pairs
     → after ≡ buffer ++ appended → span.length ≡ length appended → finished_at new.table.pairs span.child span.number appended ≡ sealed_in said → told ≡ told_from begin said no_trace
-    → LaysBehind octets room place used old buffer told span new after
-lays_as octets room place used begin packet old new buffer after appended said told span begin_is within at enough traces keeps after_is size sealed told_is =
+    → said ≢ view.Refused reason.Memory → LaysBehind octets room place used old buffer told span new after
+lays_as octets room place used begin packet old new buffer after appended said told span begin_is within at enough traces keeps after_is size sealed told_is done =
     let short : length (sealed_in said) ≤ length packet + 29 = sealed_fits (meaning_for old.caller) packet said no_trace old new traces in
     let same_long = sym (finished_size_by (sender_at new.table.pairs span.child) span.number appended) ∙ ap length sealed in
     let whole : length after ≡ length buffer + length appended = ap length after_is ∙ length-append buffer appended in
@@ -138,6 +144,7 @@ lays_as octets room place used begin packet old new buffer after appended said t
             trace = no_trace;
             traces = traces;
             octets = ap (λ (xs : Octets). before ++ xs) more ∙ sym (append_assoc before row (sealed_in said));
+            done = done;
             told_is = told_is ∙ ap (λ (k : ℕ). told_from k said no_trace) (sym begins);
           } in
           inl (at.within, behind, subst (λ (p : Octets). TakesOut p (record { gateway = old; octets = before ++ row }) told (record { gateway = new; octets = before ++ finished_row new.table.pairs (spans ++ span ∷ []) after })) there taken);
@@ -145,37 +152,16 @@ lays_as octets room place used begin packet old new buffer after appended said t
       fits = omega arith;
     }
 
-pub lays_taken : (octets : Octets) (room : ℕ) (place : SukPlace) (used begin : ℕ) (packet : Octets) (old new : State PeerCaller) (buffer after : Octets) (result : Result Laid AllocError) (what : Laid) (n : ℕ) (told : SukOutput) (span : Span)
+lays_taken : (octets : Octets) (room : ℕ) (place : SukPlace) (used begin : ℕ) (packet : Octets) (old new : State PeerCaller) (buffer appended : Octets) (what : Laid) (told : SukOutput)
     → begin ≡ used + length buffer → begin ≤ room → IsPacketAt octets place packet → HasRoom packet (room - begin)
-    → AppendsTo (λ said. Traces (meaning_for old.caller) (Outward packet) old said no_trace new) buffer result new.table.pairs after → KeepsSenders old.table.pairs new.table.pairs
-    → result ≡ Ok what → n ≡ length after - length buffer → told ≡ told_of_laid begin n what → span ≡ span_of_laid n what
-    → LaysBehind octets room place used old buffer told span new after
-lays_taken octets room place used begin packet old new buffer after result what n told span begin_is within at enough lays keeps is n_is told_is span_is =
+    → IsAppended what appended → Traces (meaning_for old.caller) (Outward packet) old (said_of_laid new.table.pairs what appended) no_trace new → KeepsSenders old.table.pairs new.table.pairs
+    → told ≡ told_of_laid begin (length appended) what
+    → LaysBehind octets room place used old buffer told (span_of_laid (length appended) what) new (buffer ++ appended)
+lays_taken octets room place used begin packet old new buffer appended what told begin_is within at enough only traces keeps told_is =
     let pairs : PairMap = new.table.pairs in
-    let a : Octets = lays.appended in
-    let whole : length after ≡ length buffer + length a = ap length lays.after_is ∙ length-append buffer a in
-    let size : n ≡ length a = omega arith in
-    let only : IsAppended what a = subst (λ (r : Result Laid AllocError). IsAppendedIf r a) is lays.is_appended in
-    let traces = subst (λ (r : Result Laid AllocError). Traces (meaning_for old.caller) (Outward packet) old (said_of_laid pairs r a) no_trace new) is lays.said in
-    let own : Span = span_of_laid n what in
-    subst (λ (s : Span). LaysBehind octets room place used old buffer told s new after) (sym span_is)
-    (lays_as octets room place used begin packet old new buffer after a (said_of_laid pairs (Ok what) a) told own begin_is within at enough traces keeps lays.after_is
-    (span_size n what a size only) (span_sealed pairs n what a only) (told_is ∙ told_laid pairs begin n what a size))
-
--- there is no memory for it
-pub lays_lacking : (octets : Octets) (room : ℕ) (place : SukPlace) (used begin : ℕ) (packet : Octets) (old new : State PeerCaller) (buffer after : Octets) (result : Result Laid AllocError) (e : AllocError) (told : SukOutput) (span : Span)
-    → begin ≡ used + length buffer → begin ≤ room → IsPacketAt octets place packet → HasRoom packet (room - begin)
-    → AppendsTo (λ said. Traces (meaning_for old.caller) (Outward packet) old said no_trace new) buffer result new.table.pairs after → KeepsSenders old.table.pairs new.table.pairs
-    → result ≡ Err e → told ≡ refused_alone Memory → span ≡ no_span
-    → LaysBehind octets room place used old buffer told span new after
-lays_lacking octets room place used begin packet old new buffer after result e told span begin_is within at enough lays keeps is told_is span_is =
-    let pairs : PairMap = new.table.pairs in
-    let a : Octets = lays.appended in
-    let only : a ≡ [] = subst (λ (r : Result Laid AllocError). IsAppendedIf r a) is lays.is_appended in
-    let traces = subst (λ (r : Result Laid AllocError). Traces (meaning_for old.caller) (Outward packet) old (said_of_laid pairs r a) no_trace new) is lays.said in
-    subst (λ (s : Span). LaysBehind octets room place used old buffer told s new after) (sym span_is)
-    (lays_as octets room place used begin packet old new buffer after a (said_of_laid pairs (Err e) a) told no_span begin_is within at enough traces keeps lays.after_is
-    (sym (ap length only)) (finished_none pairs a only) told_is)
+    let n : ℕ = length appended in
+    lays_as octets room place used begin packet old new buffer (buffer ++ appended) appended (said_of_laid pairs what appended) told (span_of_laid n what) begin_is within at enough traces keeps refl
+    (span_size n what appended refl only) (span_sealed pairs n what appended only) (told_is ∙ told_laid pairs begin n what appended refl) (none_lacking pairs what appended)
 
 refused_at : (octets : Octets) (room : ℕ) (place : SukPlace) (begin : ℕ) (gateway : State PeerCaller) (sent after : Octets) (told : SukOutput) (why : Refusal) → length sent ≡ begin
     → IsPlaceRefusal octets place (room - begin) why → told ≡ refused_alone why → the_sent gateway after ≡ the_sent gateway sent → TakesOutAt octets room place (the_sent gateway sent) told (the_sent gateway after)
@@ -205,30 +191,6 @@ lays_refused octets room place used begin old buffer told span why begin_is with
       longer = omega arith;
       fits = omega arith;
     })
-
--- an ESP packet that is laid is at most 29 octets longer than its packet
-pub laid_fits : (old new : State PeerCaller) (packet before after : Octets) (result : Result Laid AllocError) (what : Laid) → before ≡ []
-    → AppendsTo (λ said. Traces (meaning_for old.caller) (Outward packet) old said no_trace new) before result new.table.pairs after → result ≡ Ok what → length after ≤ length packet + 29
-laid_fits old new packet before after result what none lays is =
-    let pairs : PairMap = new.table.pairs in
-    let a : Octets = lays.appended in
-    let only : IsAppended what a = subst (λ (r : Result Laid AllocError). IsAppendedIf r a) is lays.is_appended in
-    let traces = subst (λ (r : Result Laid AllocError). Traces (meaning_for old.caller) (Outward packet) old (said_of_laid pairs r a) no_trace new) is lays.said in
-    let short = sealed_fits (meaning_for old.caller) packet (said_of_laid pairs (Ok what) a) no_trace old new traces in
-    let span : Span = span_of_laid 0 what in
-    let same = sym (finished_size_by (sender_at pairs span.child) span.number a) ∙ ap length (span_sealed pairs 0 what a only) in
-    let whole = ap length (lays.after_is ∙ ap (λ (xs : Octets). xs ++ a) none) in
-    omega arith
-
--- the same, appended to what stands before it
-appends_behind : (says : OutputView → Type 0) (row before : Octets) (result : Result Laid AllocError) (pairs : PairMap) (after : Octets) → before ≡ [] → AppendsTo says before result pairs after
-    → AppendsTo says row result pairs (row ++ after)
-appends_behind says row before result pairs after none lays = record {
-  appended = lays.appended;
-  after_is = ap (λ (xs : Octets). row ++ xs) (lays.after_is ∙ ap (λ (xs : Octets). xs ++ lays.appended) none);
-  is_appended = lays.is_appended;
-  said = lays.said;
-}
 
 -- what stands in the room up to where a packet begins
 pub row_long : (used begin : ℕ) (room : Octets) → used ≤ begin → begin ≤ length room → length (laid_behind used begin room) ≡ begin - used
@@ -303,42 +265,49 @@ lays_none octets place used begin old new room after told span behind_used withi
 
 -- ---- what is written
 
--- a packet is laid in the room, but for its ICV
-pub lays_taken_in : (octets : Octets) (place : SukPlace) (used begin : ℕ) (packet : Octets) (old new : State PeerCaller) (room filled before after : Octets) (result : Result Laid AllocError) (what : Laid) (n : ℕ) (told : SukOutput) (span : Span)
-    → used ≤ begin → begin ≤ length room → IsPacketAt octets place packet → HasRoom packet (length room - begin) → before ≡ []
-    → AppendsTo (λ said. Traces (meaning_for old.caller) (Outward packet) old said no_trace new) before result new.table.pairs after → KeepsSenders old.table.pairs new.table.pairs
-    → result ≡ Ok what → n ≡ length after → told ≡ told_of_laid begin n what → span ≡ span_of_laid n what → filled ≡ take begin room ++ (after ++ drop (begin + length after) room)
-    → LaysNext octets place used begin old room told span new filled
-lays_taken_in octets place used begin packet old new room filled before after result what n told span behind_used within at enough none lays keeps is n_is told_is span_is filled_is =
-    let row : Octets = laid_behind used begin room in
-    let long : length row ≡ begin - used = row_long used begin room behind_used within in
-    let both : length (row ++ after) ≡ length row + length after = length-append row after in
-    let all = appends_behind (λ said. Traces (meaning_for old.caller) (Outward packet) old said no_trace new) row before result new.table.pairs after none lays in
-    let laid = lays_taken octets (length room) place used begin packet old new row (row ++ after) result what n told span (omega arith) within at enough all keeps is (omega arith) told_is span_is in
-    let longer = laid.longer in
-    let fits = laid.fits in
-    let size : span.length ≡ length after = omega arith in
-    let within_it : begin + length after ≤ length room = omega arith in
-    let ends : begin + span.length ≡ begin + length after = ap (λ (k : ℕ). begin + k) size in
-    let grows = row_grows used begin room filled after behind_used within_it filled_is in
-    lays_in octets place used begin old new room filled (row ++ after) told span behind_used within laid grows.0
-    (ap (λ (k : ℕ). laid_behind used k filled) ends ∙ grows.1)
-    (ap (λ (k : ℕ). drop k filled) ends ∙ rest_stays begin room filled after within_it filled_is ∙ ap (λ (k : ℕ). drop k room) (sym ends))
+-- nothing is laid but an ESP packet, which is at most 29 octets longer than its packet
+laid_only : (what : Laid) (octets : ℕ) (part : Octets) → IsAppended what (take (laid_size what octets) part)
+laid_only (laid.Sealed child number) octets part = tt
+laid_only (laid.Clear packet) octets part = refl
+laid_only laid.Discarded octets part = refl
+laid_only (laid.Dropped fault) octets part = refl
 
--- there is no memory for it
-pub lays_lacking_in : (octets : Octets) (place : SukPlace) (used begin : ℕ) (packet : Octets) (old new : State PeerCaller) (room before after : Octets) (result : Result Laid AllocError) (e : AllocError) (told : SukOutput) (span : Span)
-    → used ≤ begin → begin ≤ length room → IsPacketAt octets place packet → HasRoom packet (length room - begin) → before ≡ []
-    → AppendsTo (λ said. Traces (meaning_for old.caller) (Outward packet) old said no_trace new) before result new.table.pairs after → KeepsSenders old.table.pairs new.table.pairs
-    → result ≡ Err e → told ≡ refused_alone Memory → span ≡ no_span
-    → LaysNext octets place used begin old room told span new room
-lays_lacking_in octets place used begin packet old new room before after result e told span behind_used within at enough none lays keeps is told_is span_is =
+laid_least : (what : Laid) (octets : ℕ) → laid_size what octets ≤ octets + 29
+laid_least (laid.Sealed child number) octets = omega arith
+laid_least (laid.Clear packet) octets = omega arith
+laid_least laid.Discarded octets = omega arith
+laid_least (laid.Dropped fault) octets = omega arith
+
+-- a packet is laid in the room, but for its ICV
+pub lays_taken_in : (octets : Octets) (place : SukPlace) (used begin : ℕ) (packet : Octets) (old new : State PeerCaller) (room part filled : Octets) (what : Laid) (n : ℕ) (told : SukOutput) (span : Span)
+    → used ≤ begin → begin ≤ length room → IsPacketAt octets place packet → HasRoom packet (length room - begin)
+    → LaysIn (λ said. Traces (meaning_for old.caller) (Outward packet) old said no_trace new) (length packet) (drop begin room) what new.table.pairs part → KeepsSenders old.table.pairs new.table.pairs
+    → n ≡ laid_size what (length packet) → told ≡ told_of_laid begin n what → span ≡ span_of_laid n what → filled ≡ take begin room ++ part
+    → LaysNext octets place used begin old room told span new filled
+lays_taken_in octets place used begin packet old new room part filled what n told span behind_used within at enough lays keeps n_is told_is span_is filled_is =
+    let size : ℕ = laid_size what (length packet) in
+    let after : Octets = take size part in
     let row : Octets = laid_behind used begin room in
     let long : length row ≡ begin - used = row_long used begin room behind_used within in
-    let all = appends_behind (λ said. Traces (meaning_for old.caller) (Outward packet) old said no_trace new) row before result new.table.pairs after none lays in
-    let laid = lays_lacking octets (length room) place used begin packet old new row (row ++ after) result e told no_span (omega arith) within at enough all keeps is told_is refl in
-    let only : lays.appended ≡ [] = subst (λ (r : Result Laid AllocError). IsAppendedIf r lays.appended) is lays.is_appended in
-    let empty : after ≡ [] = lays.after_is ∙ ap (λ (xs : Octets). xs ++ lays.appended) none ∙ only in
-    lays_none octets place used begin old new room (row ++ after) told span behind_used within span_is laid (ap (λ (xs : Octets). row ++ xs) empty ∙ append-nil row)
+    let least = laid_least what (length packet) in
+    let left = lays.behind.size ∙ length-drop begin room in
+    let whole : length after ≡ size = length-take-le size part (omega arith) in
+    let n_long : n ≡ length after = n_is ∙ sym whole in
+    let inside : begin + length after ≤ length room = omega arith in
+    let rest : drop size part ≡ drop (begin + length after) room =
+    lays.behind.rest ∙ drop-drop size begin room ∙ ap (λ (k : ℕ). drop (begin + k) room) (sym whole) in
+    let split : filled ≡ take begin room ++ (after ++ drop (begin + length after) room) =
+    filled_is ∙ ap (λ (xs : Octets). take begin room ++ xs) (sym (take-append-drop size part) ∙ ap (λ (xs : Octets). after ++ xs) rest) in
+    let told_so : told ≡ told_of_laid begin (length after) what = told_is ∙ ap (λ (k : ℕ). told_of_laid begin k what) n_long in
+    let own : Span = span_of_laid (length after) what in
+    let laid = lays_taken octets (length room) place used begin packet old new row after what told (omega arith) within at enough (laid_only what (length packet) part) lays.said keeps told_so in
+    let spans : own.length ≡ length after = span_size (length after) what after refl (laid_only what (length packet) part) in
+    let ends : begin + own.length ≡ begin + length after = ap (λ (k : ℕ). begin + k) spans in
+    let grows = row_grows used begin room filled after behind_used inside split in
+    subst (λ (s : Span). LaysNext octets place used begin old room told s new filled) (sym (span_is ∙ ap (λ (k : ℕ). span_of_laid k what) n_long))
+    (lays_in octets place used begin old new room filled (row ++ after) told own behind_used within laid grows.0
+    (ap (λ (k : ℕ). laid_behind used k filled) ends ∙ grows.1)
+    (ap (λ (k : ℕ). drop k filled) ends ∙ rest_stays begin room filled after inside split ∙ ap (λ (k : ℕ). drop k room) (sym ends)))
 
 -- it is refused
 pub lays_refused_in : (octets : Octets) (place : SukPlace) (used begin : ℕ) (old : State PeerCaller) (room : Octets) (told : SukOutput) (span : Span) (why : Refusal)
@@ -428,18 +397,6 @@ behind_both room mid filled used end within first second =
     ∙ ap (drop n) first
     ∙ drop-drop n used room
     ∙ ap (λ (k : ℕ). drop k room) (sym at)
-
--- an ESP packet is written at a place
-pub written_at : (room octets part now : Octets) (at : ℕ) → at + length octets ≤ length room → part ≡ take (length room - at) (drop at room)
-    → now ≡ put_mid at (length room - at) room (octets ++ drop (length octets) part) → now ≡ take at room ++ (octets ++ drop (at + length octets) room)
-written_at room octets part now at fits part_is now_is =
-    let k : ℕ = length room - at in
-    let left : drop k (drop at room) ≡ [] = drop_all k (drop at room) (omega (arith, length-drop at room)) in
-    now_is
-    ∙ ap (λ (xs : Octets). take at room ++ ((octets ++ drop (length octets) part) ++ xs)) left
-    ∙ ap (λ (xs : Octets). take at room ++ xs) (append-nil (octets ++ drop (length octets) part))
-    ∙ ap (λ (xs : Octets). take at room ++ (octets ++ drop (length octets) xs)) (part_is ∙ take_rest room at)
-    ∙ ap (λ (xs : Octets). take at room ++ (octets ++ xs)) (drop-drop (length octets) at room)
 
 -- ---- what a call answers
 

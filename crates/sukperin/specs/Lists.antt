@@ -1,5 +1,5 @@
 -- What calls with lists of packets do: one step after the other, in the order of the places.
-use Rattle.std.specs.Prelude.{◌≡◌, ◌⊎◌, ◌+◌, ◌-◌, ◌<◌, ◌≤◌, ◌++◌, ◌∷◌, ℕ, List, Option, Some, None, [], get_or, length, map, take, drop, slice_index_or}
+use Rattle.std.specs.Prelude.{◌≡◌, ◌≢◌, ◌⊎◌, ◌+◌, ◌-◌, ◌<◌, ◌≤◌, ◌++◌, ◌∷◌, ℕ, List, Option, Some, None, [], get_or, length, map, take, drop, slice_index_or}
 use Rattle.base.specs.Octets.{Octets}
 use Rattle.esp.specs.Precomputed.{IsPrecomputed}
 use Rattle.esp.specs.declared.precomputed.Precomputed.{Precomputed}
@@ -78,13 +78,11 @@ TakesEspAt octets place old told new =
     (LiesIn octets place × TakesEsp (packet_at octets place) old told new)
     ⊎ ((¬ LiesIn octets place) × IsRefusedAlone Place old told new)
 
--- The ESP packets are taken in order. Nothing is left to be taken then, and what the handle keeps for lists on
--- their way out stays.
+-- The ESP packets are taken in order. Nothing is left to be taken then.
 pub record TakesEspList (octets : Octets) (places : List SukPlace) (old new : Hosted) (before after : List SukOutput) : Type 0 where
   pub runs : RunsOver (TakesEspAt octets) places old.gateway before new.gateway after
   pub left_is : new.left ≡ left.Nothing
   pub tells_keys : new.tells_keys ≡ old.tells_keys
-  pub buffer : new.buffer ≡ old.buffer
 
 -- The gateway takes them. Or nothing changes, since there are fewer records than places.
 abbrev pub OpensBy : Octets → List SukPlace → Hosted → ℕ → Hosted → List SukOutput → List SukOutput → Type 0
@@ -111,20 +109,21 @@ told_from begin (view.Sealed child number octets) trace = record (told_of (view.
 told_from begin said trace = told_of said trace
 
 -- The gateway takes one step with this packet, whose ESP packet stands behind those before it. The record
--- says where.
+-- says where. The step isn't refused for want of memory.
 pub record TakesOut (packet : Octets) (old : Sent) (told : SukOutput) (new : Sent) : Type 0 where
   pub said : OutputView
   pub trace : Trace
   pub traces : Traces (meaning_for old.gateway.caller) (Outward packet) old.gateway said trace new.gateway
   pub octets : new.octets ≡ old.octets ++ sealed_in said
+  pub done : said ≢ view.Refused reason.Memory
   pub told_is : told ≡ told_from (length old.octets) said trace
 
 -- there is room for a packet behind those before it
 abbrev pub HasRoomBehind : Octets → Octets → ℕ → Type 0
 HasRoomBehind packet before room = length before + (length packet + 29) ≤ room
 
--- The packet at a place is taken, where a step may be refused for want of memory. Or it is refused alone: the
--- place doesn't lie in the buffer, or the room that is left may be too short.
+-- The packet at a place is taken. Or it is refused alone: the place doesn't lie in the buffer, or the room that
+-- is left may be too short.
 abbrev pub TakesOutAt : Octets → ℕ → SukPlace → Sent → SukOutput → Sent → Type 0
 TakesOutAt octets room place old told new =
     (LiesIn octets place × HasRoomBehind (packet_at octets place) old.octets room × TakesOut (packet_at octets place) old told new)
@@ -139,12 +138,11 @@ pub record TakesOutOver (octets : Octets) (places : List SukPlace) (old : State 
   pub fits : length sent ≤ length room
   pub filled_is : filled ≡ filled_with sent room
 
--- Nothing is left to be taken then, and no octets of a packet are kept.
+-- Nothing is left to be taken then.
 pub record TakesOutList (octets : Octets) (places : List SukPlace) (old new : Hosted) (before after : List SukOutput) (room filled : Octets) : Type 0 where
   pub takes : TakesOutOver octets places old.gateway before room new.gateway after filled
   pub left_is : new.left ≡ left.Nothing
   pub tells_keys : new.tells_keys ≡ old.tells_keys
-  pub buffer : new.buffer ≡ []
 
 -- The gateway takes them. Or nothing changes, since there are fewer records than places.
 abbrev pub SealsBy : Octets → List SukPlace → Hosted → ℕ → Hosted → List SukOutput → List SukOutput → Octets → Octets → Type 0

@@ -126,7 +126,6 @@ hosted_spelled terms own peer own_secret peer_secret policy = record {
       (caller_spelled terms peer own_secret peer_secret);
   left = NothingLeft;
   tells_keys = is_set terms.tells_keys;
-  buffer = [];
 }
 
 -- what the arguments spell, all of which can be used

@@ -40,8 +40,6 @@ pub struct Hosted {
     pub left: Left,
     /// Whether it tells the keys of its IKE SAs.
     pub tells_keys: bool,
-    /// What each packet of a list on its way out is laid in. It holds nothing between calls but its memory.
-    pub buffer: Items<u8>,
 }
 
 impl Left {

@@ -39,7 +39,7 @@
 //!   packet at its place; each record tells its step. A packet that is refused alone leaves the gateway.
 //! - `suk_outward_all` does so with packets on their way out. Their ESP packets are the octets at the
 //!   beginning of the room, one behind the other; each record says where its own begins. What stood behind
-//!   them stands there still. One that is refused alone leaves the gateway, also where memory is short.
+//!   them stands there still. One that is refused alone leaves the gateway, and none is for want of memory.
 //! - Views leave what the handle leads to as it was, and tell what it holds: the next moment, messages that
 //!   are left, IKE SAs that were closed, Child SAs with their selectors, and all IKE SAs. Where they find
 //!   nothing they tell nothing.
@@ -47,7 +47,8 @@
 //! - Every call returns, whatever the octets and the codes, and each end that is made is freed at most
 //!   once.
 //!
-//! Not proved, of any call: that it says 20, or a record of a list does, only where memory is short.
+//! Not proved, of any call: that it says 20, or a record of ESP packets that came does, only where memory is
+//! short.
 //!
 //! # What is trusted to C
 //! - A handle begins as all zeros and is changed by these calls alone. It has one owner: it may be moved,

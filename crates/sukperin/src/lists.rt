@@ -1,8 +1,9 @@
 //! Lists of packets, of which up to 64 at a time have their ICVs computed side by side.
-ghost use Rattle.std.specs.Prelude.{◌≡◌, ◌+◌, ◌≤◌, ℕ, IfErr, IfOk, IfSome, MatchOption, [], length, take};
+ghost use Rattle.std.specs.Prelude.{◌≡◌, ◌+◌, ◌^◌, ◌<◌, ◌≤◌, ℕ, IfErr, IfOk, IfSome, MatchOption, [], length, take};
 ghost use Rattle.esp.specs.Precomputed.{IsPrecomputed};
 ghost use Rattle.gateway.specs.Inputs.{Esp, input_view};
 ghost use Rattle.gateway.specs.Runs.{Runs};
+ghost use Rattle.traffic.specs.Behind.{laid_size};
 ghost use Rattle.sukperin.specs.Lists.{AreInputsAt, AreValuesAt, IsPacketAt, IsPlaceRefusal, LaysGroup, LaysNext};
 ghost use Rattle.sukperin.specs.Lists.{LiesIn, OpensAll, OpensBy, RunsOver, SealsAll, SealsBy, TakesEsp};
 ghost use Rattle.sukperin.specs.Lists.{TakesEspAt, TakesOutGroup, TakesOutOver, no_span, packet_at};
@@ -15,13 +16,10 @@ use crate::hosted::{Hosted, Left};
 use crate::inputs::PACKET_MORE;
 use crate::output::SukOutput;
 use crate::refusal::Refusal;
-use crate::room::write_front;
-use base::Items;
 use caller_peer::PeerCaller;
-use esp::{FEW, GROUP, Precomputed, no_values, value_at};
+use esp::{FEW, GROUP, Precomputed, no_values, packet_size, value_at};
 use gateway::{Gateway, Input, Laid, Reason, Span};
 use std::alloc::Global;
-use std::mem;
 
 /// A packet's place in a buffer.
 #[repr(C)]
@@ -75,9 +73,8 @@ pub extern "C" fn suk_esp_all(
 /// Nothing is left to be taken then.
 ///
 /// In the record of one packet, which is refused alone: 109 where its place doesn't lie in the buffer, 103
-/// where the room that is left is shorter than the packet and 29 octets, 20 where there is no memory for it.
-/// The handle keeps what it lays a packet in, so memory is taken only for a packet that is longer than each
-/// that was laid before it. 103, with nothing done, where there are fewer records than places; 101 before that.
+/// where the room that is left is shorter than the packet and 29 octets. 103, with nothing done, where there are
+/// fewer records than places; 101 before that. Takes no memory, but for that of the flows at the first packet.
 #[unsafe(no_mangle)]
 pub extern "C" fn suk_outward_all(
     alloc: Global,
@@ -93,7 +90,7 @@ pub extern "C" fn suk_outward_all(
     let Some(mut boxed) = handle.take(alloc) else {
         return Refusal::NoEnd.code();
     };
-    let code = seal_all(alloc, &mut boxed, octets, places, room, outs);
+    let code = seal_all(&mut boxed, octets, places, room, outs);
     handle.put_back(boxed);
     code
 }
@@ -283,7 +280,6 @@ fn input_at<'a>(octets: &'a [u8], place: &SukPlace) -> Input<'a>
 
 // Gives the packets to an end, if it is a gateway.
 fn seal_all(
-    alloc: Global,
     end: &mut End,
     octets: &[u8],
     places: &[SukPlace],
@@ -296,12 +292,11 @@ fn seal_all(
     let End::Gateway(hosted) = end else {
         return Refusal::NoEnd.code();
     };
-    seal_by(alloc, hosted, octets, places, room, outs)
+    seal_by(hosted, octets, places, room, outs)
 }
 
 // Gives the packets to a gateway, if there are records enough.
 fn seal_by(
-    alloc: Global,
     hosted: &mut Hosted,
     octets: &[u8],
     places: &[SukPlace],
@@ -314,11 +309,7 @@ fn seal_by(
     if few {
         return Refusal::ShortRoom.code();
     }
-    // The handle keeps it between calls, so that the next list needn't take that memory again.
-    let mut buffer = mem::replace(&mut hosted.buffer, Items::new(alloc)).into_vec();
-    seal_groups(&mut hosted.gateway, octets, places, room, outs, &mut buffer);
-    buffer.clear();
-    hosted.buffer = Items::from_vec(buffer);
+    seal_groups(&mut hosted.gateway, octets, places, room, outs);
     hosted.left = Left::Nothing;
     0
 }
@@ -330,7 +321,6 @@ fn seal_groups(
     places: &[SukPlace],
     room: &mut [u8],
     outs: &mut [SukOutput],
-    buffer: &mut Vec<u8>,
 )
     requires { length places.now ≤ length outs.old }
     ensures { TakesOutOver octets.now places.now gateway.old outs.old room.old gateway.new outs.new room.new }
@@ -346,7 +336,6 @@ fn seal_groups(
             room,
             used,
             &mut outs[start..start + count],
-            buffer,
         );
     }
 }
@@ -359,7 +348,6 @@ fn seal_group(
     room: &mut [u8],
     used: usize,
     outs: &mut [SukOutput],
-    buffer: &mut Vec<u8>,
 ) -> usize
     requires few { length places.now ≤ GROUP }
     requires records { length outs.old ≡ length places.now }
@@ -368,9 +356,9 @@ fn seal_group(
         room.new }
 {
     if places.len() <= FEW {
-        seal_with::<FEW>(gateway, octets, places, room, used, outs, buffer)
+        seal_with::<FEW>(gateway, octets, places, room, used, outs)
     } else {
-        seal_with::<GROUP>(gateway, octets, places, room, used, outs, buffer)
+        seal_with::<GROUP>(gateway, octets, places, room, used, outs)
     }
 }
 
@@ -383,7 +371,6 @@ fn seal_with<const N: usize>(
     room: &mut [u8],
     used: usize,
     outs: &mut [SukOutput],
-    buffer: &mut Vec<u8>,
 ) -> usize
     requires group { N ≤ GROUP }
     requires few { length places.now ≤ N }
@@ -393,9 +380,7 @@ fn seal_with<const N: usize>(
         room.new }
 {
     let mut spans = [nothing(); N];
-    let end = lay_group(
-        gateway, octets, places, room, used, outs, &mut spans, buffer,
-    );
+    let end = lay_group(gateway, octets, places, room, used, outs, &mut spans);
     gateway.finish_behind(&spans[..places.len()], &mut room[used..]);
     end
 }
@@ -410,7 +395,6 @@ fn lay_group(
     used: usize,
     outs: &mut [SukOutput],
     spans: &mut [Span],
-    buffer: &mut Vec<u8>,
 ) -> usize
     requires few { length places.now ≤ length spans.old }
     requires records { length outs.old ≡ length places.now }
@@ -420,7 +404,7 @@ fn lay_group(
 {
     let mut end = used;
     for (turn, place) in places.iter().enumerate() {
-        let span = lay_next(gateway, octets, place, room, end, buffer, &mut outs[turn]);
+        let span = lay_next(gateway, octets, place, room, end, &mut outs[turn]);
         spans[turn] = span;
         end += span.length;
     }
@@ -431,15 +415,14 @@ fn lay_group(
 // on, and its record where that is to stand. Answers which part of the room the ESP packet is: none where the
 // packet is refused, or goes out without ESP.
 //
-// It is laid in the handle's buffer first and copied at once, while it is in the processor's cache. A record
-// that was answered instead would be copied, by wide loads right behind narrow stores.
+// The record is written where it stands: one that was answered instead would be copied, by wide loads right
+// behind narrow stores.
 fn lay_next(
     gateway: &mut Gateway<PeerCaller>,
     octets: &[u8],
     place: &SukPlace,
     room: &mut [u8],
     begin: usize,
-    buffer: &mut Vec<u8>,
     out: &mut SukOutput,
 ) -> Span
     requires within { begin ≤ length room.old }
@@ -453,18 +436,20 @@ fn lay_next(
             return nothing();
         }
     };
-    buffer.clear();
-    match gateway.lay_behind(packet, buffer) {
-        Ok(laid) => {
-            let length = buffer.len();
-            write_front(&mut room[begin..], buffer.as_slice());
-            *out = told_at(&laid, begin, length);
-            span_of(&laid, length)
-        }
-        Err(_) => {
-            *out = SukOutput::refused(Refusal::Memory);
-            nothing()
-        }
+    let laid = gateway.lay_in(packet, &mut room[begin..]);
+    let length = laid_length(&laid, packet.len());
+    *out = told_at(&laid, begin, length);
+    span_of(&laid, length)
+}
+
+// How many octets the ESP packet has of a packet of so many that was laid; none where it has no ESP packet.
+fn laid_length(laid: &Laid<'_>, packet: usize) -> usize
+    requires { packet + 29 < 2 ^ 64 }
+    ensures { result ≡ laid_size laid.now packet }
+{
+    match laid {
+        Laid::Sealed { .. } => packet_size(packet),
+        Laid::Clear(_) | Laid::Discarded | Laid::Dropped(_) => 0,
     }
 }
 

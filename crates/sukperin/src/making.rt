@@ -8,7 +8,7 @@ use crate::hosted::{Hosted, Left};
 use crate::refusal::Refusal;
 use crate::target::LANES_FROM;
 use crate::terms::{SukEntry, SukTerms, caller_of, config_of, is_start, policy_of};
-use gateway::{Gateway, Items};
+use gateway::Gateway;
 use std::alloc::Global;
 
 /// Makes a gateway of these terms, with identities of 1 to 256 octets, the secrets by which both ends prove
@@ -106,7 +106,6 @@ fn hosted(
                 gateway,
                 left: Left::Nothing,
                 tells_keys: terms.tells_keys != 0,
-                buffer: Items::new(alloc),
             })
         }
         Err(refusal) => Err(refusal),

@@ -4,6 +4,7 @@ mod ReceivingLemmas
 mod ReceptionLemmas
 mod SendingLemmas
 mod BehindLemmas
+mod RoomLemmas
 mod FollowingLemmas
 mod MirrorLemmas
 mod ContentLemmas

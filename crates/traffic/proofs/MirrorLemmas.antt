@@ -9,10 +9,8 @@ use Rattle.esp.specs.declared.sa.Sa.{Sa}
 use Rattle.esp.specs.Judging.{Judges}
 use Rattle.esp.specs.Packet.{check_value, head, IsContents, packet, trailer}
 use Rattle.esp.specs.Opening.{HandsUp, Refuses}
-use Rattle.esp.specs.Sealing.{IsShortestPacket, Seals}
+use Rattle.esp.specs.Sealing.{FitsPacket, IsShortestPacket, Seals}
 use Rattle.esp.specs.Worked.{IsOpenable}
-use Rattle.esp.proofs.NumberLemmas.{judged_as_one}
-use Rattle.esp.proofs.PacketLemmas.{openable}
 use Rattle.policy.specs.Decisions.{Covers}
 use Rattle.policy.specs.Packets.{family_of_packet, family_of_version, IsFlowOf, version_of}
 use Rattle.policy.specs.declared.entry.Entry.{Entry}
@@ -26,10 +24,16 @@ use Rattle.traffic.specs.Outcomes.{Outcome, Up, Sealed}
 use Rattle.traffic.specs.Receiving.{IsAddressedTo, Receives, spi_of}
 use Rattle.traffic.specs.Sending.{Sends}
 use Rattle.traffic.specs.Verdicts.{IsTraffic, IsVerdict, Packet}
-use Rattle.traffic.proofs.OpeningLemmas.{before_or_wasted, judged_anyway, same_pair}
+use Rattle.traffic.proofs.OpeningLemmas.{before_or_wasted, judged_anyway, PacketFacts, same_pair}
 use Rattle.traffic.proofs.ReceivingLemmas.{addressed_anyway}
 use Rattle.traffic.proofs.ReceptionLemmas.{has_addressee, one_pair, outcome_by, way_of, Ways}
 use Rattle.traffic.proofs.VerdictLemmas.{FlowFacts, one_verdict}
+
+-- what the crates below say of flows, of a packet that came, and of a sealed one
+pub record MirrorFacts : Type 0 where
+  pub flows : FlowFacts
+  pub packets : PacketFacts
+  pub openable : (a : Sa) (n next : ℕ) (payload b : Octets) → IsShortestPacket a n next payload b → FitsPacket payload → IsOpenable a n next payload b
 
 -- ---- the SPI of a sealed packet
 
@@ -55,7 +59,7 @@ family_is b f (inr is) = let long = is.packet.least in version_is b 6 (omega ari
 
 -- ---- the far end
 
-module _ (facts : FlowFacts) (far : Database) (mirror : Pair) (octets : Octets) (number next : ℕ) (payload : Octets) where
+module _ (facts : MirrorFacts) (far : Database) (mirror : Pair) (octets : Octets) (number next : ℕ) (payload : Octets) where
   -- whatever comes of such a packet at an SA pair that judges it
   hands_up : IsAddressedTo far octets mirror → Judges mirror.inbound.association mirror.inbound.window octets number → IsContents octets next payload
       → ((next' : ℕ) (payload' : Octets) → IsContents octets next' payload' → (next' ≡ next) × (payload' ≡ payload))
@@ -69,7 +73,7 @@ module _ (facts : FlowFacts) (far : Database) (mirror : Pair) (octets : Octets) 
       ∙ one_pair far octets shut.shut.pair mirror shut.shut.addressed addressed in
       absurd (elim (before_or_wasted mirror.inbound octets shut.fault shut.shut.refused.inbound
       (subst (λ (p : Pair). Refuses ⊥ p.inbound octets shut.fault shut.shut.refused.inbound) is shut.shut.refused.refused)) [
-        | inl before ↦ judged_anyway mirror.inbound.association mirror.inbound.window octets number shut.fault judged before.refusal
+        | inl before ↦ judged_anyway facts.packets mirror.inbound.association mirror.inbound.window octets number shut.fault judged before.refusal
         | inr wasted ↦ wasted.wasted.contents next payload contents
       ])
   hands_up addressed judged contents no_other verdict outcome new (inr (inr is)) =
@@ -81,18 +85,18 @@ module _ (facts : FlowFacts) (far : Database) (mirror : Pair) (octets : Octets) 
       let up : HandsUp mirror.inbound octets is.number is.opened.next is.opened.payload opened.inbound =
       subst (λ (p : Pair). HandsUp p.inbound octets is.number is.opened.next is.opened.payload opened.inbound) at opened.opened in
       let same_number : is.number ≡ number =
-      judged_as_one mirror.inbound.association mirror.inbound.window octets is.number number up.judged judged in
+      facts.packets.judged mirror.inbound.association mirror.inbound.window octets is.number number up.judged judged in
       let same = no_other is.opened.next is.opened.payload up.contents in
       let judged_so : IsVerdict next payload mirror.remote mirror.local is.verdict =
       subst (λ (x : Octets). IsVerdict next x mirror.remote mirror.local is.verdict) same.1
       (subst (λ (x : ℕ). IsVerdict x is.opened.payload mirror.remote mirror.local is.verdict) same.0
       (subst (λ (p : Pair). IsVerdict is.opened.next is.opened.payload p.remote p.local is.verdict) pair is.opened.verdict_is)) in
       is.outcome_is
-      ∙ (λ i. outcome_by (child i) (same_number i) (one_verdict facts next payload mirror.remote mirror.local is.verdict (Packet payload) judged_so verdict i))
+      ∙ (λ i. outcome_by (child i) (same_number i) (one_verdict facts.flows next payload mirror.remote mirror.local is.verdict (Packet payload) judged_so verdict i))
 
 -- ---- both ends
 
-module _ (facts : FlowFacts) (near near_new : Database) (policy : List Entry) (packet : Octets) (child number : ℕ) (octets : Octets)
+module _ (facts : MirrorFacts) (near near_new : Database) (policy : List Entry) (packet : Octets) (child number : ℕ) (octets : Octets)
     (pair mirror : Pair) (far far_new : Database) (outcome : Outcome) where
   pub mirrored : pair_at near.pairs child ≡ Some pair → Sends near policy packet (Sealed child number octets) near_new → Mirrors pair mirror
       → IsSoundTable far → IsDueAtPair far mirror octets number → Receives far octets outcome far_new → outcome ≡ Up mirror.serial number packet
@@ -105,7 +109,7 @@ module _ (facts : FlowFacts) (near near_new : Database) (policy : List Entry) (p
       subst (λ a. IsShortestPacket a number (next_header_of (family_of sends.flow.source)) packet octets) mirrors.outward
       (subst (λ b. IsShortestPacket pair.outbound.association number (next_header_of (family_of sends.flow.source)) packet b) (sym seals.appended) seals.shortest) in
       let is : IsOpenable mirror.inbound.association number (next_header_of (family_of sends.flow.source)) packet octets =
-      openable mirror.inbound.association number (next_header_of (family_of sends.flow.source)) packet octets shortest seals.fits in
+      facts.openable mirror.inbound.association number (next_header_of (family_of sends.flow.source)) packet octets shortest seals.fits in
       let given = sound.spi_given mirror.serial mirror.inbound.association.spi (record { pair = mirror; there = due.found.there; its_own = refl }) in
       let below = given.before_next in let most = sound.start.most in let few = sound.given in
       let spi : spi_of octets ≡ mirror.inbound.association.spi =

@@ -10,15 +10,20 @@ use Rattle.base.specs.Octets.{Octets}
 use Rattle.replay.specs.Window.{Seen, Takes}
 use Rattle.esp.specs.declared.sa.Sa.{Sa}
 use Rattle.esp.specs.Judging.{IsNumber, Judges, low_half}
-use Rattle.esp.specs.Packet.{PassesIntegrity}
+use Rattle.esp.specs.Packet.{IsContents, PassesIntegrity}
 use Rattle.esp.specs.Opening.{HandsUp, IsOpeningRefusal, Refuses, TakesNumber, WastesNumber}
 use Rattle.esp.specs.Views.{Receiving}
 use Rattle.esp.specs.declared.fault.EspFault.{EspFault}
 use Rattle.esp.specs.declared.fault.EspFault.TheVariants.{Exhausted, PayloadSize, BadLength, Old, Replayed, BadNumber, BadIcv, BadPadding, Memory}
-use Rattle.esp.proofs.NumberLemmas.{judged_as_one, one_number_of}
-use Rattle.esp.proofs.PacketLemmas.{one_contents}
 use Rattle.sadb.specs.Database.{Database, OpensAt, RefusesAt}
 use Rattle.sadb.specs.declared.pair.Pair.{Pair}
+
+-- what esp's laws say of a packet: its sequence number, and what it carries
+pub record PacketFacts : Type 0 where
+  pub number : (e : Bool) (w : Seen) (low n m : ℕ) → IsNumber e w low n → IsNumber e w low m → n ≡ m
+  pub judged : (a : Sa) (w : Seen) (b : Octets) (n m : ℕ) → Judges a w b n → Judges a w b m → n ≡ m
+  pub contents : (b : Octets) (next other : ℕ) (payload another : Octets) → IsContents b next payload → IsContents b other another
+      → (other ≡ next) × (another ≡ payload)
 
 same_window : (a b : Seen) → a.top ≡ b.top → a.size ≡ b.size → a.taken ≡ b.taken → a ≡ b
 same_window a b top size taken = λ i. record { top = top i; size = size i; taken = taken i }
@@ -47,11 +52,11 @@ record IsSameOpening (n n' next next' : ℕ) (payload payload' : Octets) (new ne
   payload_is : payload ≡ payload'
   new_is : new ≡ new'
 
-one_opening : (r : Receiving) (b : Octets) (n n' next next' : ℕ) (payload payload' : Octets) (new new' : Receiving)
+one_opening : PacketFacts → (r : Receiving) (b : Octets) (n n' next next' : ℕ) (payload payload' : Octets) (new new' : Receiving)
     → HandsUp r b n next payload new → HandsUp r b n' next' payload' new' → IsSameOpening n n' next next' payload payload' new new'
-one_opening r b n n' next next' payload payload' new new' first second =
-    let number : n ≡ n' = judged_as_one r.association r.window b n n' first.judged second.judged in
-    let contents = one_contents b next' next payload' payload second.contents first.contents in
+one_opening facts r b n n' next next' payload payload' new new' first second =
+    let number : n ≡ n' = facts.judged r.association r.window b n n' first.judged second.judged in
+    let contents = facts.contents b next' next payload' payload second.contents first.contents in
     record {
       number = number;
       next_is = contents.0;
@@ -60,27 +65,27 @@ one_opening r b n n' next next' payload payload' new new' first second =
     }
 
 -- a packet that is judged isn't refused before
-pub judged_anyway : (a : Sa) (w : Seen) (b : Octets) (n : ℕ) (e : EspFault) → Judges a w b n → IsOpeningRefusal a w b e → ⊥
-judged_anyway a w b n BadLength j is = is j.whole
-judged_anyway a w b n BadNumber j is = is.1 n j.number
-judged_anyway a w b n Old j is =
-    let same = one_number_of a.extended w (low_half b) is.1.0 n is.1.1 j.number in
+pub judged_anyway : PacketFacts → (a : Sa) (w : Seen) (b : Octets) (n : ℕ) (e : EspFault) → Judges a w b n → IsOpeningRefusal a w b e → ⊥
+judged_anyway facts a w b n BadLength j is = is j.whole
+judged_anyway facts a w b n BadNumber j is = is.1 n j.number
+judged_anyway facts a w b n Old j is =
+    let same = facts.number a.extended w (low_half b) is.1.0 n is.1.1 j.number in
     let below = is.1.2 in let reach = j.in_reach in omega arith
-judged_anyway a w b n Replayed j is =
-    let same = one_number_of a.extended w (low_half b) n is.1.0 j.number is.1.1 in
+judged_anyway facts a w b n Replayed j is =
+    let same = facts.number a.extended w (low_half b) n is.1.0 j.number is.1.1 in
     both_ways _ j.new (ap (set.contains w.taken) same ∙ is.1.3)
-judged_anyway a w b n BadIcv j is =
-    let same = one_number_of a.extended w (low_half b) n is.1.0 j.number is.1.1 in
+judged_anyway facts a w b n BadIcv j is =
+    let same = facts.number a.extended w (low_half b) n is.1.0 j.number is.1.1 in
     is.1.4 (subst (λ (k : ℕ). PassesIntegrity a k b) same j.intact)
-judged_anyway a w b n Exhausted j is = is
-judged_anyway a w b n PayloadSize j is = is
-judged_anyway a w b n BadPadding j is = is
-judged_anyway a w b n Memory j is = is
+judged_anyway facts a w b n Exhausted j is = is
+judged_anyway facts a w b n PayloadSize j is = is
+judged_anyway facts a w b n BadPadding j is = is
+judged_anyway facts a w b n Memory j is = is
 
 -- a packet that isn't judged has one refusal
-module _ (a : Sa) (w : Seen) (b : Octets) where
+module _ (facts : PacketFacts) (a : Sa) (w : Seen) (b : Octets) where
   same_number : (n m : ℕ) → IsNumber a.extended w (low_half b) n → IsNumber a.extended w (low_half b) m → n ≡ m
-  same_number n m first second = one_number_of a.extended w (low_half b) n m first second
+  same_number n m first second = facts.number a.extended w (low_half b) n m first second
 
   one_refusal : (e f : EspFault) → IsOpeningRefusal a w b e → IsOpeningRefusal a w b f → e ≡ f
   one_refusal BadLength BadLength x y = refl
@@ -138,24 +143,24 @@ before_or_wasted r b BadIcv new is = inl (record { refusal = is.0; unchanged = i
 before_or_wasted r b Exhausted new is = inl (record { refusal = is.0; unchanged = is.1 })
 before_or_wasted r b PayloadSize new is = inl (record { refusal = is.0; unchanged = is.1 })
 
-one_refused_end : (r : Receiving) (b : Octets) (e f : EspFault) (x y : Receiving) → IsBefore r b e x ⊎ IsWasted r b e x → IsBefore r b f y ⊎ IsWasted r b f y
+one_refused_end : PacketFacts → (r : Receiving) (b : Octets) (e f : EspFault) (x y : Receiving) → IsBefore r b e x ⊎ IsWasted r b e x → IsBefore r b f y ⊎ IsWasted r b f y
     → (e ≡ f) × (x ≡ y)
-one_refused_end r b e f x y (inl first) (inl second) =
-    (one_refusal r.association r.window b e f first.refusal second.refusal, first.unchanged ∙ sym second.unchanged)
-one_refused_end r b e f x y (inl first) (inr second) =
-    absurd (judged_anyway r.association r.window b second.number e second.wasted.judged first.refusal)
-one_refused_end r b e f x y (inr first) (inl second) =
-    absurd (judged_anyway r.association r.window b first.number f first.wasted.judged second.refusal)
-one_refused_end r b e f x y (inr first) (inr second) =
-    let number : first.number ≡ second.number = judged_as_one r.association r.window b first.number second.number first.wasted.judged second.wasted.judged in (
+one_refused_end facts r b e f x y (inl first) (inl second) =
+    (one_refusal facts r.association r.window b e f first.refusal second.refusal, first.unchanged ∙ sym second.unchanged)
+one_refused_end facts r b e f x y (inl first) (inr second) =
+    absurd (judged_anyway facts r.association r.window b second.number e second.wasted.judged first.refusal)
+one_refused_end facts r b e f x y (inr first) (inl second) =
+    absurd (judged_anyway facts r.association r.window b first.number f first.wasted.judged second.refusal)
+one_refused_end facts r b e f x y (inr first) (inr second) =
+    let number : first.number ≡ second.number = facts.judged r.association r.window b first.number second.number first.wasted.judged second.wasted.judged in (
       first.padding ∙ sym second.padding,
       one_taking r first.number x y first.wasted.taken (subst (λ k. TakesNumber r k y) (sym number) second.wasted.taken),
     )
 
-not_both_ends : (r : Receiving) (b : Octets) (n next : ℕ) (payload : Octets) (x : Receiving) (e : EspFault) (y : Receiving)
+not_both_ends : PacketFacts → (r : Receiving) (b : Octets) (n next : ℕ) (payload : Octets) (x : Receiving) (e : EspFault) (y : Receiving)
     → HandsUp r b n next payload x → IsBefore r b e y ⊎ IsWasted r b e y → ⊥
-not_both_ends r b n next payload x e y up (inl before) = judged_anyway r.association r.window b n e up.judged before.refusal
-not_both_ends r b n next payload x e y up (inr wasted) = wasted.wasted.contents next payload up.contents
+not_both_ends facts r b n next payload x e y up (inl before) = judged_anyway facts r.association r.window b n e up.judged before.refusal
+not_both_ends facts r b n next payload x e y up (inr wasted) = wasted.wasted.contents next payload up.contents
 
 -- ---- the same of an SA pair in the table
 
@@ -172,11 +177,11 @@ pub record IsOneOpening (n n' next next' : ℕ) (payload payload' : Octets) (new
   pub payload_is : payload ≡ payload'
   pub table : new ≡ new'
 
-pub one_opened : (old : Database) (serial : ℕ) (packet : Octets) (n n' next next' : ℕ) (payload payload' : Octets) (new new' : Database)
+pub one_opened : PacketFacts → (old : Database) (serial : ℕ) (packet : Octets) (n n' next next' : ℕ) (payload payload' : Octets) (new new' : Database)
     → OpensAt old serial packet n next payload new → OpensAt old serial packet n' next' payload' new' → IsOneOpening n n' next next' payload payload' new new'
-one_opened old serial packet n n' next next' payload payload' new new' first second =
+one_opened facts old serial packet n n' next next' payload payload' new new' first second =
     let pair : second.pair ≡ first.pair = same_pair second.pair first.pair (sym second.changed.there ∙ first.changed.there) in
-    let same = one_opening first.pair.inbound packet n n' next next' payload payload' first.inbound second.inbound first.opened
+    let same = one_opening facts first.pair.inbound packet n n' next next' payload payload' first.inbound second.inbound first.opened
     (subst (λ (p : Pair). HandsUp p.inbound packet n' next' payload' second.inbound) pair second.opened) in
     record {
       number = same.number;
@@ -185,18 +190,18 @@ one_opened old serial packet n n' next next' payload payload' new new' first sec
       table = first.changed.content ∙ (λ i. opened_table old serial (sym pair i) (same.new_is i)) ∙ sym second.changed.content;
     }
 
-pub one_refused : (old : Database) (serial : ℕ) (packet : Octets) (e f : EspFault) (new new' : Database)
+pub one_refused : PacketFacts → (old : Database) (serial : ℕ) (packet : Octets) (e f : EspFault) (new new' : Database)
     → RefusesAt old serial packet e new → RefusesAt old serial packet f new' → (e ≡ f) × (new ≡ new')
-one_refused old serial packet e f new new' first second =
+one_refused facts old serial packet e f new new' first second =
     let pair : second.pair ≡ first.pair = same_pair second.pair first.pair (sym second.changed.there ∙ first.changed.there) in
-    let same = one_refused_end first.pair.inbound packet e f first.inbound second.inbound
+    let same = one_refused_end facts first.pair.inbound packet e f first.inbound second.inbound
     (before_or_wasted first.pair.inbound packet e first.inbound first.refused)
     (before_or_wasted first.pair.inbound packet f second.inbound (subst (λ (p : Pair). Refuses ⊥ p.inbound packet f second.inbound) pair second.refused)) in
     (same.0, first.changed.content ∙ (λ i. opened_table old serial (sym pair i) (same.1 i)) ∙ sym second.changed.content)
 
-pub not_both : (old : Database) (serial : ℕ) (packet : Octets) (n next : ℕ) (payload : Octets) (e : EspFault) (new new' : Database)
+pub not_both : PacketFacts → (old : Database) (serial : ℕ) (packet : Octets) (n next : ℕ) (payload : Octets) (e : EspFault) (new new' : Database)
     → OpensAt old serial packet n next payload new → RefusesAt old serial packet e new' → ⊥
-not_both old serial packet n next payload e new new' first second =
+not_both facts old serial packet n next payload e new new' first second =
     let pair : second.pair ≡ first.pair = same_pair second.pair first.pair (sym second.changed.there ∙ first.changed.there) in
-    not_both_ends first.pair.inbound packet n next payload first.inbound e second.inbound first.opened
+    not_both_ends facts first.pair.inbound packet n next payload first.inbound e second.inbound first.opened
     (before_or_wasted first.pair.inbound packet e second.inbound (subst (λ (p : Pair). Refuses ⊥ p.inbound packet e second.inbound) pair second.refused))

@@ -12,7 +12,7 @@ use Rattle.traffic.specs.Receiving.{HasAddressee, IsAddressedTo, IsAddressedToNo
 use Rattle.traffic.specs.Verdicts.{IsVerdict, Verdict, Packet, Nothing, Refused}
 use Rattle.traffic.specs.declared.fault.PacketFault.{PacketFault}
 use Rattle.traffic.specs.declared.fault.PacketFault.TheVariants.{UnknownAssociation, Esp, Inner, OutsideSelectors}
-use Rattle.traffic.proofs.OpeningLemmas.{not_both, one_opened, one_refused, same_pair}
+use Rattle.traffic.proofs.OpeningLemmas.{not_both, one_opened, one_refused, PacketFacts, same_pair}
 use Rattle.traffic.proofs.ReceivingLemmas.{addressed_anyway}
 use Rattle.traffic.proofs.VerdictLemmas.{one_verdict, FlowFacts}
 
@@ -90,12 +90,12 @@ one_miss old packet a (Inner b) x y = absurd y
 one_miss old packet a OutsideSelectors x y = absurd y
 one_miss old packet (Esp e) b x y = absurd x
 
-module _ (facts : FlowFacts) (old : Database) (packet : Octets) where
+module _ (facts : FlowFacts) (packets : PacketFacts) (old : Database) (packet : Octets) where
   one_judged : (a b : Outcome) (new other : Database) → IsJudgedSo old packet a new → IsJudgedSo old packet b other → (a ≡ b) × (new ≡ other)
   one_judged a b new other x y =
       let pair : y.opened.pair ≡ x.opened.pair = one_pair old packet y.opened.pair x.opened.pair y.opened.addressed x.opened.addressed in
       let child : y.child ≡ x.child = y.opened.child_is ∙ ap (λ (p : Pair). p.serial) pair ∙ sym x.opened.child_is in
-      let same = one_opened old x.child packet x.number y.number x.opened.next y.opened.next x.opened.payload y.opened.payload new other x.opened.opened
+      let same = one_opened packets old x.child packet x.number y.number x.opened.next y.opened.next x.opened.payload y.opened.payload new other x.opened.opened
       (subst (λ serial. OpensAt old serial packet y.number y.opened.next y.opened.payload other) child y.opened.opened) in
       let judged : IsVerdict x.opened.next x.opened.payload x.opened.pair.remote x.opened.pair.local y.verdict =
       subst (λ (p : Pair). IsVerdict x.opened.next x.opened.payload p.remote p.local y.verdict) pair
@@ -108,7 +108,7 @@ module _ (facts : FlowFacts) (old : Database) (packet : Octets) where
   one_shut : (a b : Outcome) (new other : Database) → IsShut old packet a new → IsShut old packet b other → (a ≡ b) × (new ≡ other)
   one_shut a b new other x y =
       let pair : y.shut.pair ≡ x.shut.pair = one_pair old packet y.shut.pair x.shut.pair y.shut.addressed x.shut.addressed in
-      let same = one_refused old x.shut.pair.serial packet x.fault y.fault new other x.shut.refused
+      let same = one_refused packets old x.shut.pair.serial packet x.fault y.fault new other x.shut.refused
       (subst (λ (p : Pair). RefusesAt old p.serial packet y.fault other) pair y.shut.refused) in
       (x.outcome_is ∙ ap (λ fault. Dropped (Esp fault)) same.0 ∙ sym y.outcome_is, same.1)
 
@@ -116,7 +116,7 @@ module _ (facts : FlowFacts) (old : Database) (packet : Octets) where
   shut_not_judged a b new other x y =
       let pair : y.opened.pair ≡ x.shut.pair = one_pair old packet y.opened.pair x.shut.pair y.opened.addressed x.shut.addressed in
       let child : y.child ≡ x.shut.pair.serial = y.opened.child_is ∙ ap (λ (p : Pair). p.serial) pair in
-      not_both old x.shut.pair.serial packet y.number y.opened.next y.opened.payload x.fault other new
+      not_both packets old x.shut.pair.serial packet y.number y.opened.next y.opened.payload x.fault other new
       (subst (λ serial. OpensAt old serial packet y.number y.opened.next y.opened.payload other) child y.opened.opened) x.shut.refused
 
   missed_anyway : (fault : PacketFault) (pair : Pair) → IsAddressedTo old packet pair → IsAddressedToNone old packet fault → ⊥

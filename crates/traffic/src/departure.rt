@@ -8,7 +8,7 @@ ghost use Rattle.policy.specs.Packets.{IsFlowOf, IsInnerRefusal};
 ghost use Rattle.policy.specs.declared.fault.InnerFault.{InnerFault};
 ghost use Rattle.policy.specs.declared.flow.Flow.{Flow};
 ghost use Rattle.sadb.specs.Database.{IsOutbound};
-ghost use Rattle.traffic.specs.Behind.{DepartsBehind, ProtectsBehind, SendsBehind};
+ghost use Rattle.traffic.specs.Behind.{DepartsBehind, DepartsIn, ProtectsBehind, ProtectsIn, SendsBehind, SendsIn};
 ghost use Rattle.traffic.specs.Laying.{finished_outcome};
 ghost use Rattle.traffic.specs.Outcomes.{outcome_of_departure, outcome_of_laid};
 ghost use Rattle.traffic.specs.Sending.{HasUnspentCarrier, HasNumberAt, IsToBeSealed, Sends};
@@ -44,10 +44,11 @@ pub enum Departure<'a> {
     Dropped(PacketFault),
 }
 
-/// What became of a packet on its way out whose ESP packet, if it goes protected, was appended to a buffer.
+/// What became of a packet on its way out whose ESP packet, if it goes protected, was appended to a buffer, or
+/// written into a room.
 #[derive(Clone, Copy, Debug, PartialEq, Eq)]
 pub enum Laid<'a> {
-    /// It goes protected: its ESP packet is what was appended.
+    /// It goes protected: its ESP packet is what was appended or written.
     Sealed {
         /// The serial of the SA pair that carries it.
         child: u32,
@@ -191,6 +192,42 @@ pub fn lay_behind<'a>(
     }
 }
 
+/// Sends a packet as [`lay`] does, but its ESP packet is written at the beginning of a room of the caller's,
+/// which has 29 octets more than the packet; what stands behind the ESP packet stays. Of how many octets that
+/// is tells [`esp::packet_size`]. Where the packet doesn't go protected, nothing is written. Takes no memory
+/// but for the places of the flows.
+pub fn lay_in<'a>(
+    table: &mut Table,
+    flows: &mut FlowMemory,
+    policy: &Policy,
+    packet: &'a [u8],
+    room: &mut [u8],
+) -> Laid<'a>
+    requires right { AllRight policy.now table.old.pairs flows.old }
+    requires fits { length packet.now + 29 ≤ length room.old }
+    ensures sent { SendsIn table.old policy.now packet.now room.old result table.new room.new }
+    ensures right { AllRight policy.now table.new.pairs flows.new }
+    // Where the packet can't be read, nothing is remembered or forgotten.
+    ensures unread { (fault : InnerFault) → IsInnerRefusal packet.now fault → flows.new ≡ flows.old }
+    // Where there are places, the flow is remembered.
+    ensures held { (flow : Flow) → IsFlowOf packet.now flow → 0 < length flows.new
+        → HoldsTreatmentOf policy.now table.old.pairs flows.new flow }
+    // Places that were made stay.
+    ensures kept { 0 < length flows.old → 0 < length flows.new }
+{
+    answers_stay_right();
+    no_pair_comes();
+    flows_are_determined();
+    let mut inner_flow = no_flow();
+    match read_inner(packet, &mut inner_flow) {
+        Ok(()) => {
+            let treatment = flows.treatment(table, policy, &inner_flow);
+            depart_in(table, treatment, &inner_flow, packet, room)
+        }
+        Err(fault) => Laid::Dropped(PacketFault::Inner(fault)),
+    }
+}
+
 // What was laid in a buffer of its own.
 fn departure_of<'a>(laid: Laid<'a>, octets: Vec<u8>) -> Departure<'a>
     ensures { outcome_of_departure result ≡ outcome_of_laid laid.entry octets.items }
@@ -276,5 +313,46 @@ fn lay_by<'a>(
         Ok(number) => Ok(Laid::Sealed { child, number }),
         Err(EspFault::Memory) => Err(AllocError),
         Err(fault) => Ok(Laid::Dropped(PacketFault::Esp(fault))),
+    }
+}
+
+// Lays a packet in a room, as its flow is to be treated.
+fn depart_in<'a>(
+    table: &mut Table,
+    treatment: Treatment,
+    flow: &Flow,
+    packet: &'a [u8],
+    room: &mut [u8],
+) -> Laid<'a>
+    requires flow { IsFlowOf packet.now flow.now }
+    requires carried { IsCarriedSo table.old.pairs flow.now treatment }
+    requires fits { length packet.now + 29 ≤ length room.old }
+    ensures { DepartsIn table.old treatment flow.now packet.now room.old result table.new room.new }
+{
+    match treatment {
+        Treatment::Carried(child) => lay_in_by(table, child, flow, packet, room),
+        Treatment::Uncarried => Laid::Dropped(PacketFault::UnknownAssociation),
+        Treatment::Bypassed => Laid::Clear(packet),
+        Treatment::Discarded => Laid::Discarded,
+    }
+}
+
+// Lays a packet in a room, by the SA pair that carries its flow.
+fn lay_in_by<'a>(
+    table: &mut Table,
+    child: u32,
+    flow: &Flow,
+    packet: &'a [u8],
+    room: &mut [u8],
+) -> Laid<'a>
+    requires flow { IsFlowOf packet.now flow.now }
+    requires carrier { IsOutbound table.old.pairs flow.now child }
+    requires fits { length packet.now + 29 ≤ length room.old }
+    ensures { ProtectsIn table.old flow.now packet.now room.old result table.new room.new }
+{
+    let next = next_header_of(flow.family());
+    match table.lay_in(child, next, packet, room) {
+        Ok(number) => Laid::Sealed { child, number },
+        Err(fault) => Laid::Dropped(PacketFault::Esp(fault)),
     }
 }

@@ -21,6 +21,7 @@ ghost use Rattle.traffic.specs.Receiving.{Receives, TakesNumberAt, TakesOneNumbe
 ghost use Rattle.traffic.specs.Sending.{IsDecided, Protects, Sends};
 ghost use Rattle.traffic.specs.declared.fault.PacketFault.{PacketFault};
 
+use esp::laws::{a_packet_carries_one_payload, a_packet_has_one_number, sealed_packets_open};
 use policy::laws::{flows_are_determined, policies_are_determined};
 use sadb::laws::answers_are_determined;
 
@@ -34,6 +35,8 @@ pub fn outcomes_are_determined()
     ensures admitted { (policy : List Entry) (packet : Octets) (one another : Outcome)
         → Admits policy packet one → Admits policy packet another → one ≡ another }
 {
+    a_packet_has_one_number();
+    a_packet_carries_one_payload();
     flows_are_determined();
     policies_are_determined();
     answers_are_determined();
@@ -126,6 +129,9 @@ pub fn what_one_end_seals_the_other_hands_up()
         → IsSoundTable far → IsDueAtPair far mirror octets number → Receives far octets outcome far_new
         → outcome ≡ Up mirror.serial number packet }
 {
+    a_packet_has_one_number();
+    a_packet_carries_one_payload();
+    sealed_packets_open();
     flows_are_determined();
 }
 

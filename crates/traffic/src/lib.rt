@@ -5,9 +5,9 @@
 //! [`receive`] finds the SA pair of an ESP packet by its SPI, opens the packet, and delivers what it carried
 //! where the pair's selectors hold it. [`send`] asks the policy about a packet, and seals what is to be
 //! protected by the pair that carries its flow; [`send_remembering`] does the same, and remembers what is
-//! done with flows. [`lay_behind`] appends the ESP packet to a buffer, where those of a list stand one behind
-//! the other. [`admit`] asks the policy about a packet that came in the clear. Only sending takes memory. A
-//! [`PacketFault`] says why a packet is dropped.
+//! done with flows. [`lay_in`] writes the ESP packet into a room of the caller's, where those of a list stand
+//! one behind the other. [`admit`] asks the policy about a packet that came in the clear. Only sending takes
+//! memory. A [`PacketFault`] says why a packet is dropped.
 //!
 //! What becomes of a packet is an `Outcome`, plain data (`specs/Outcomes`); which one it is stands in
 //! `specs/Receiving`, `specs/Sending` and `specs/Admitting`, and the verdict on what was opened in
@@ -47,5 +47,5 @@ mod verdict;
 
 pub use admission::{Admission, admit};
 pub use arrival::{Arrival, question, receive, receive_ahead};
-pub use departure::{Departure, Laid, lay, lay_behind, send, send_remembering};
+pub use departure::{Departure, Laid, lay, lay_behind, lay_in, send, send_remembering};
 pub use fault::PacketFault;

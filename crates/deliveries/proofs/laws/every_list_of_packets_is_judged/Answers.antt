@@ -10,5 +10,12 @@ returns c =
       after = c.a_packet_takes_one_number.ensures.refused_after_judging;
       before = c.a_packet_takes_one_number.ensures.refused_before;
       inbound = c.answers_are_determined.ensures.inbound;
+      number = c.a_packet_has_one_number.ensures.number;
+      judged = c.a_packet_has_one_number.ensures.judged;
+      positive = c.a_packet_has_one_number.ensures.positive;
+      sound = c.windows_show_what_was_taken.ensures.sound;
+      taking = c.windows_show_what_was_taken.ensures.taking;
+      once = c.every_history_judges_at_most_once.ensures.once;
+      exactly = c.every_history_judges_at_most_once.ensures.exactly;
     } in
     packets_are_judged facts

@@ -5,4 +5,4 @@ pub returns-then-few : goal.returns-then-few
 returns-then-few c = inr (omega arith, c.code.ensures.value, refl, refl)
 
 pub returns : goal.returns
-returns c = inl (omega arith, refl, record { runs = c.open_groups.ensures; left_is = refl; tells_keys = refl; buffer = refl })
+returns c = inl (omega arith, refl, record { runs = c.open_groups.ensures; left_is = refl; tells_keys = refl })

@@ -1,7 +1,7 @@
 //! What is sealed. The expected ICVs are those that Python's module `hmac` computes.
 use super::fixture::{IPV4, extended_sender, first, inner, sealed, sender};
-use crate::tests::asserts::{granted, holds, same, same_at};
-use esp::{EspFault, Outbound};
+use crate::tests::asserts::{granted, holds, holds_at, same, same_at};
+use esp::{EspFault, Outbound, packet_size};
 use std::alloc::Global;
 use std::process::Abort;
 
@@ -28,6 +28,25 @@ fn seals_and_appends(rt: HostRuntime) {
     same(&rt, other, second().as_slice());
 }
 
+/// Finds that a packet with so many octets 5a is this one too where it is laid in a room, and that what
+/// stands behind it in the room stays.
+fn lays_the_same(rt: &impl Abort, alloc: Global, octets: usize, wanted: &[u8]) {
+    let payload = granted(rt, vec![in alloc; 0x5a; octets]);
+    let mut room = granted(rt, vec![in alloc; 0xa5; 16_413]);
+    holds(rt, payload.len() + 29 <= room.len());
+    let mut sender = sender(0);
+    same_at(rt, octets, sender.lay_in(IPV4, &payload, &mut room), Ok(1));
+    let size = packet_size(payload.len());
+    holds(rt, size <= room.len());
+    sender.finish(1, &mut room[..size], None);
+    let (packet, behind) = room
+        .as_slice()
+        .split_at_checked(size)
+        .expect(rt, "a packet");
+    same_at(rt, octets, packet, wanted);
+    holds_at(rt, octets, behind.iter().all(|octet| *octet == 0xa5));
+}
+
 /// Finds how long a packet with so many octets 5a is, that they stand in it behind number 1, and what
 /// stands behind them.
 fn pads(rt: &impl Abort, alloc: Global, rows: &[(usize, usize, &[u8])]) {
@@ -40,6 +59,7 @@ fn pads(rt: &impl Abort, alloc: Global, rows: &[(usize, usize, &[u8])]) {
         granted(rt, wanted.extend_from_slice(&payload));
         granted(rt, wanted.extend_from_slice(end));
         same_at(rt, *octets, out.as_slice(), wanted.as_slice());
+        lays_the_same(rt, alloc, *octets, &wanted);
     }
 }
 
@@ -89,6 +109,11 @@ fn refuses_a_longer_payload(rt: HostRuntime) {
     let refused = sender.seal(IPV4, &payload, &mut out);
     same(&rt, refused, Err(EspFault::PayloadSize));
     same(&rt, out.as_slice(), &[1, 2, 3]);
+    let mut room = granted(&rt, vec![in rt.alloc(); 9; 16_414]);
+    holds(&rt, payload.len() + 29 <= room.len());
+    let refused = sender.lay_in(IPV4, &payload, &mut room);
+    same(&rt, refused, Err(EspFault::PayloadSize));
+    holds(&rt, room.iter().all(|octet| *octet == 9));
     out.clear();
     same(&rt, sender.seal(IPV4, &inner(), &mut out), Ok(1));
     same(&rt, out.as_slice(), first().as_slice());

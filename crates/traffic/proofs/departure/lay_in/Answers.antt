@@ -1,0 +1,34 @@
+use Rattle.std.proofs.Common.{subst}
+use Rattle.flows.specs.Memory.{HoldsTreatmentOf}
+use Rattle.flows.specs.Staying.{NoneComes}
+use Rattle.policy.specs.declared.flow.Flow.{Flow}
+use Rattle.sadb.specs.Database.{Database}
+use Rattle.traffic.proofs.FollowingLemmas.{Keeps}
+use Rattle.traffic.proofs.RoomLemmas.{departs_in, sent_in}
+use Rattle.traffic.proofs.departure.lay_in.Goals as goal
+
+pub returns-in-Ok-clause-sent : goal.returns-in-Ok-clause-sent
+returns-in-Ok-clause-sent c =
+    departs_in c.args.table.now c.args.policy.now c.treatment-treatment.result c.read_inner.new.flow c.args.packet.now c.args.room.now c.depart_in.result c.depart_in.new.table c.depart_in.new.room c.in-Ok.ensures.flow
+    c.treatment-treatment.ensures.right.decision c.depart_in.ensures
+
+pub returns-in-Ok-clause-right : goal.returns-in-Ok-clause-right
+returns-in-Ok-clause-right c =
+    let keeps : Keeps (λ (a b : Database). NoneComes a.pairs b.pairs) = record {
+      same = λ d. c.no_pair_comes.ensures.same d.pairs;
+      opening = c.no_pair_comes.ensures.opening;
+      refusing = c.no_pair_comes.ensures.refusing;
+      sealing = c.no_pair_comes.ensures.sealing;
+    } in
+    c.answers_stay_right.ensures.stay c.args.policy.now c.args.table.now.pairs c.depart_in.new.table.pairs c.treatment-treatment.new.self
+    (sent_in (λ (a b : Database). NoneComes a.pairs b.pairs) keeps c.args.table.now c.args.policy.now c.args.packet.now c.args.room.now c.depart_in.result c.depart_in.new.table c.depart_in.new.room (returns-in-Ok-clause-sent c))
+    c.treatment-treatment.ensures.all_right
+
+pub returns-in-Ok-clause-held : goal.returns-in-Ok-clause-held
+returns-in-Ok-clause-held c = λ flow flow_is some.
+    subst (λ (f : Flow). HoldsTreatmentOf c.args.policy.now c.args.table.now.pairs c.treatment-treatment.new.self f)
+    (c.flows_are_determined.ensures.flow c.args.packet.now c.read_inner.new.flow flow c.in-Ok.ensures.flow flow_is)
+    (record { treatment = c.treatment-treatment.result; found = c.treatment-treatment.ensures.right; held = c.treatment-treatment.ensures.held some })
+
+pub returns-in-Ok-clause-unread : goal.returns-in-Ok-clause-unread
+returns-in-Ok-clause-unread c = λ fault refused. absurd (c.flows_are_determined.ensures.apart c.args.packet.now c.read_inner.new.flow fault c.in-Ok.ensures.flow refused)
