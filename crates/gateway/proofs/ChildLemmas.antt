@@ -62,7 +62,7 @@ use Rattle.ike.specs.declared.output.Stepped.{Stepped}
 use Rattle.ike.specs.declared.output.Trace.{Trace}
 use Rattle.gateway.specs.Inputs.{Input}
 use Rattle.gateway.specs.Inputs as input
-use Rattle.gateway.specs.Outputs.{view_of_ike, OutputView}
+use Rattle.gateway.specs.Outputs.{view_of_ike, wants_memory, OutputView}
 use Rattle.gateway.specs.Requests.{for_ike, IsDatagram}
 use Rattle.gateway.specs.States.{association_in, State}
 use Rattle.gateway.specs.Steps.{DoesInput, StepsIke}
@@ -78,7 +78,7 @@ use Rattle.gateway.specs.declared.world.stored.End.{End}
 use Rattle.gateway.specs.declared.world.stored.End.TheVariants.{A, B}
 use Rattle.gateway.specs.declared.world.stored.Protection.{Protection}
 use Rattle.gateway.specs.declared.world.stored.Protection.TheVariants as mark
-use Rattle.gateway.proofs.MoveLemmas.{said_octets, TurnLaws}
+use Rattle.gateway.proofs.MoveLemmas.{said_octets, wants_none, TurnLaws}
 use Rattle.gateway.proofs.PartyLemmas.{none_some, single, some_is}
 use Rattle.gateway.proofs.SoundWorldLemmas.{each_end, still_sent}
 use Rattle.gateway.proofs.TurnLemmas.{is_once}
@@ -494,6 +494,7 @@ module _ {C : Type 0} (turns : TurnLaws) (kin : ChildLaws) (meaning_of : C → M
             held = record { serial = made.ike; there = it.arrival.there; keyed = ap (λ (x : Association). keys_in x.phase) own ∙ keyed };
             datagram = subst (λ (o : Option ike.InputView). IsDatagram o message.octets) (sym w.is) (subst (λ (v : ike.InputView). IsDatagram (Some v) message.octets) (sym message.is) refl);
             opens = it.arrival.by.opens;
+            delivered = ap wants_memory w.output ∙ wants_none w.stepped.output;
           })
 
           opens_to : (exchange : ℕ) (payloads : List Payload) (plain : Plain) → makes.message.header.exchange ≡ exchange

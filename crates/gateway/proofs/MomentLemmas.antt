@@ -22,6 +22,7 @@ use Rattle.gateway.specs.Outputs.{view_of_ike, wants_memory, Clear, Counted, Dis
 use Rattle.gateway.specs.Requests.{for_ike}
 use Rattle.gateway.specs.States.{State}
 use Rattle.gateway.proofs.HistoryLemmas.{answered, at_place, elsewhere, passage_way, refused, IkeWay, IsOfPacket}
+use Rattle.gateway.proofs.MoveLemmas.{wants_none}
 
 -- what is known of a step of the machine
 pub record MomentFacts : Type 0 where
@@ -65,15 +66,6 @@ told_by (made.Counted serial child closed) = refl
 told_by (made.Ticked ticked) = refl
 told_by made.Done = refl
 told_by (made.Dropped fault) = refl
-
-wants_none : (o : IkeOutput) → wants_memory (view_of_ike o) ≡ false
-wants_none (made.Reply octets closed) = refl
-wants_none (made.Repeat octets) = refl
-wants_none (made.Request serial octets) = refl
-wants_none (made.Counted serial child closed) = refl
-wants_none (made.Ticked ticked) = refl
-wants_none made.Done = refl
-wants_none (made.Dropped fault) = refl
 
 told_of_packet : (s : OutputView) → IsOfPacket s → tells_moment s ≡ false
 told_of_packet (Reply octets closed) is = refl

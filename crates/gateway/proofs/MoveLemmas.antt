@@ -28,7 +28,7 @@ use Rattle.lockstep.specs.Ends as ends
 use Rattle.lockstep.specs.Histories.{AreGenuine, HasRequest, HasResponse}
 use Rattle.gateway.specs.Inputs.{Input}
 use Rattle.gateway.specs.Inputs as input
-use Rattle.gateway.specs.Outputs.{view_of_ike, OutputView, Refused, Repeat, Reply, Request, Ticked}
+use Rattle.gateway.specs.Outputs.{view_of_ike, wants_memory, OutputView, Refused, Repeat, Reply, Request, Ticked}
 use Rattle.gateway.specs.Requests.{for_ike}
 use Rattle.gateway.specs.States.{State}
 use Rattle.gateway.specs.Steps.{DoesInput, StepsIke}
@@ -105,6 +105,16 @@ octets_same (output.Ticked ticked) = refl
 octets_same output.Done = refl
 octets_same (output.Dropped why) = refl
 
+-- what the machine answers is no want of memory
+pub wants_none : (o : IkeOutput) → wants_memory (view_of_ike o) ≡ false
+wants_none (output.Reply octets closed) = refl
+wants_none (output.Repeat octets) = refl
+wants_none (output.Request serial octets) = refl
+wants_none (output.Counted serial child closed) = refl
+wants_none (output.Ticked ticked) = refl
+wants_none output.Done = refl
+wants_none (output.Dropped why) = refl
+
 -- the message goes out by this step, and its trace names it
 pub record GoesOut (s : OutputView) (trace : Trace) (serial : ℕ) (entry : Entry) : Type 0 where
   pub octets : said_octets s ≡ Some entry.octets
@@ -129,7 +139,7 @@ pub record EndMoves (meaning : Meaning) (given : Option ike.InputView) (old : He
       → (Contains (sent_in moves) (entry_of m octets)) ⊎ (GoesOutAgain (ledger_at old serial) (entry_of m octets))
   pub again : (requests : List Resent) (closed : List ℕ) (r : Resent) → s ≡ Ticked requests closed → Contains requests r → r.ike ≡ serial → r.encrypted ≡ true
       → GoesOutAgain (ledger_at old serial) (request_of r.number r.octets)
-  pub genuine : (others : List Entry) → ((response : Bool) (number : ℕ) → ComesHere meaning given old serial response number → HasTaken others response number) → AreGenuine others moves
+  pub genuine : (others : List Entry) → ((response : Bool) (number : ℕ) → wants_memory s ≡ false → ComesHere meaning given old serial response number → HasTaken others response number) → AreGenuine others moves
 
 -- ---- by a step of the machine of IKE
 
@@ -176,7 +186,7 @@ module _ (meaning : Meaning) (view : ike.InputView) (old : Held) (stepped : Step
     again = λ requests closed r said there same sealed.
         let t = ticked_by stepped.output requests closed said in
         is.no_more.again t.ticked r t.is (subst (λ (xs : List Resent). Contains xs r) (sym t.requests_are) there) same sealed;
-    genuine = λ others all. moves_genuine others meaning view old serial is.moves is.came all;
+    genuine = λ others all. moves_genuine others meaning view old serial is.moves is.came (λ response number comes. all response number (wants_none stepped.output) comes);
   }
 
 -- ---- by any other step

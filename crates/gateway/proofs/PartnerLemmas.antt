@@ -1,8 +1,7 @@
 -- Who is established, as initiator or as responder, has a partner.
-use Rattle.std.proofs.Common.{◌≡◌, ◌<◌, ◌==◌, ◌∷◌, ◌++◌, inl, inr, ℕ, Bool, true, false, not, ◌&&◌, List, [], Option, Some, None, slice_get, refl, sym, ap, subst, ◌∙◌, arith}
+use Rattle.std.proofs.Common.{◌≡◌, ◌<◌, ◌==◌, ◌∷◌, inl, inr, ℕ, Bool, true, false, not, ◌&&◌, List, [], Option, Some, None, slice_get, refl, sym, ap, subst, ◌∙◌, arith}
 use Rattle.std.specs.Prelude.{option_and_then}
 use Rattle.base.specs.Octets.{Octets}
-use Rattle.mac.specs.Hmac.{hmac_sha256}
 use Rattle.wire.specs.Messages.{Spells}
 use Rattle.wire.specs.Numbers.{IKE_SA_INIT}
 use Rattle.wire.specs.declared.message.Header.{Header}
@@ -48,7 +47,7 @@ use Rattle.gateway.proofs.BeforeLemmas.{given_before, none_some, same_one}
 use Rattle.gateway.proofs.ChildLemmas.{way_of}
 use Rattle.gateway.proofs.ExchangeLemmas.{given_there, held_on, introduced_by, keys_agree, made_of, request_tells, step_at, MadeAt, Offered, RecordLaws, TellsOffer}
 use Rattle.gateway.proofs.Nonces.{EachNonceIsOfOne}
-use Rattle.proved_octets.specs.Parts.{HaveTheSameParts}
+use Rattle.proved_octets.specs.Parts.{HaveTheSameParts, what_is_proved}
 use Rattle.gateway.specs.Agreeing.{IsEstablishedAsInitiator, IsEstablishedAsResponder, HasAsker, HasPartner, HasProved, IsToBeProved, mac_of, NoProofIsForged, NoTwoRecordsProveAlike, ProvesAsInitiator, ProvesAsResponder}
 
 -- what is known of one step
@@ -62,7 +61,7 @@ pub record PartnerLaws : Type 0 where
   pub proved : TheEstablishedProvedThemselves
   pub one_message : (m n : Message) (b : Octets) → Spells m b → Spells n b → m ≡ n
   pub parts : (m n : Message) (first nonce sk_p text other another key content : Octets) → Spells m first → Spells n other
-      → first ++ nonce ++ hmac_sha256 sk_p text ≡ other ++ another ++ hmac_sha256 key content → HaveTheSameParts first nonce sk_p text other another key content
+      → what_is_proved first nonce sk_p text ≡ what_is_proved other another key content → HaveTheSameParts first nonce sk_p text other another key content
 
 other_twice : (e : End) → other_end (other_end e) ≡ e
 other_twice A = refl

@@ -37,6 +37,7 @@ use Rattle.gateway.specs.Steps.{Steps}
 use Rattle.gateway.specs.declared.fault.Reason.{Reason}
 use Rattle.gateway.specs.declared.fault.Reason.TheVariants as reason
 use Rattle.gateway.proofs.HistoryLemmas.{answered, at_place, elsewhere, exists, held_between, passage_way, refused, state_at, through, way_begun, Facts, IkeWay, IsAt, IsOfPacket, Through}
+use Rattle.gateway.proofs.MoveLemmas.{wants_none}
 
 -- ---- what is known of a step of the machine
 
@@ -112,15 +113,6 @@ same_held a b is = cc
 
 same_view : (view other : ike.InputView) → Some view ≡ Some other → view ≡ other
 same_view view other is = cc
-
-no_want : (o : IkeOutput) → wants_memory (view_of_ike o) ≡ false
-no_want (made.Reply octets closed) = refl
-no_want (made.Repeat octets) = refl
-no_want (made.Request serial octets) = refl
-no_want (made.Counted serial child closed) = refl
-no_want (made.Ticked ticked) = refl
-no_want made.Done = refl
-no_want (made.Dropped fault) = refl
 
 quiet_said : (o : IkeOutput) → quiet.IsQuiet o → IsQuiet (view_of_ike o)
 quiet_said (made.Reply octets closed) is = absurd is
@@ -282,7 +274,7 @@ module _ {C : Type 0} (facts : RequestFacts) (meaning_of : C → Meaning) (p : P
 
   -- what was processed was delivered
   delivered_by : (serial : ℕ) (a b : Association) (number : ℕ) → Ways → IsHeldThrough serial p.before.machine.held p.after.machine.held a b → ComesIntoEffect number a b → wants_memory p.said ≡ false
-  delivered_by serial a b number (answered w) held comes = ap wants_memory w.output ∙ no_want w.stepped.output
+  delivered_by serial a b number (answered w) held comes = ap wants_memory w.output ∙ wants_none w.stepped.output
   delivered_by serial a b number (refused w) held comes = absurd (unmoved serial a b number w.same held comes)
   delivered_by serial a b number (elsewhere w) held comes = absurd (unmoved serial a b number w.same held comes)
 

@@ -19,7 +19,7 @@ use Rattle.lockstep.specs.Parties.{times, under, AreHeldUnder, AreSoundParties, 
 use Rattle.lockstep.specs.Soundness.{IsInitial}
 use Rattle.lockstep.specs.Promises.{AreInStep, AreIssuedAndInEffect, AreWithinWindows}
 use Rattle.gateway.specs.Inputs.{Event}
-use Rattle.gateway.specs.Outputs.{output_view, OutputView}
+use Rattle.gateway.specs.Outputs.{output_view, wants_memory, OutputView}
 use Rattle.gateway.specs.Runs.{Runs}
 use Rattle.gateway.specs.States.{State}
 use Rattle.gateway.specs.WorldHistories.{Happening, IsWorldHistory, IsWorldTrail}
@@ -144,15 +144,16 @@ module _ {C : Type 0} (turns : TurnLaws) (laws : PartyLaws) (meaning_of : C → 
     stored_now : h.after.stored ≡ now
     stored_now = ap (λ (w : WorldState C). w.stored) t.content ∙ stored_at e t.gateway now h.before
 
-    was_sent : (response : Bool) (number : ℕ) (octets : Octets) → ComesTo (meaning_of was.caller) h.event.input was keys response number octets
+    was_sent : (response : Bool) (number : ℕ) (octets : Octets) → wants_memory h.said ≡ false → ComesTo (meaning_of was.caller) h.event.input was keys response number octets
         → Contains (peers e last) (record { response = response; number = number; octets = octets })
-    was_sent response number octets comes =
+    was_sent response number octets had comes =
         let entry : Entry = record { response = response; number = number; octets = octets } in
         (laws.told keys (sent_at (other_end e) last.sent) entry).1 (there_sent (other_end e) last.sent keys entry (unforged response number octets (record {
           association = comes.association;
           held = record { serial = comes.serial; there = comes.there; keyed = comes.keyed };
           datagram = comes.datagram;
           opens = comes.opens;
+          delivered = had;
         })))
 
     -- the end at which it takes place

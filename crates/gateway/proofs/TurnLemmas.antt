@@ -24,7 +24,7 @@ use Rattle.ike.specs.declared.output.Trace.{Trace}
 use Rattle.lockstep.specs.Ends.{request_of, sent_in, Entry, GoesOutAgain}
 use Rattle.lockstep.specs.Parties.{Holds, IsGenuineTurn, IsSentNow, Party, TakesTurn, Turn}
 use Rattle.gateway.specs.Inputs.{Input}
-use Rattle.gateway.specs.Outputs.{OutputView, Repeat, Reply, Request, Sealed, Ticked}
+use Rattle.gateway.specs.Outputs.{wants_memory, OutputView, Repeat, Reply, Request, Sealed, Ticked}
 use Rattle.gateway.specs.Requests.{for_ike, IsDatagram}
 use Rattle.gateway.specs.States.{State}
 use Rattle.gateway.specs.Steps.{Traces}
@@ -157,13 +157,13 @@ pub record ComesTo {C : Type 0} (meaning : Meaning) (given : Input) (old : State
   pub datagram : IsDatagram (for_ike given) octets
   pub opens : OpensAsMessage meaning.plain_of association (other_role association.role) response number octets
 
--- what a step of an end is, as a turn of its party; what it takes is genuine where what comes to it is
--- among what the peer sent
-pub record IsTurn {C : Type 0} (meaning : Meaning) (given : Input) (old : State C) (before after : Party) : Type 0 where
+-- what a step of an end is, as a turn of its party; what it takes is genuine where what comes to it, and isn't
+-- refused for want of memory, is among what the peer sent
+pub record IsTurn {C : Type 0} (meaning : Meaning) (given : Input) (old : State C) (said : OutputView) (before after : Party) : Type 0 where
   pub turn : Turn
   pub takes : TakesTurn turn before after
   pub genuine : (keys : KeyRecord) (others : List Entry)
-      → ((response : Bool) (number : ℕ) (octets : Octets) → ComesTo meaning given old keys response number octets → Contains others (record { response = response; number = number; octets = octets }))
+      → ((response : Bool) (number : ℕ) (octets : Octets) → wants_memory said ≡ false → ComesTo meaning given old keys response number octets → Contains others (record { response = response; number = number; octets = octets }))
       → IsGenuineTurn keys turn after others
 
 record Brought (meaning : Meaning) (given : Option ike.InputView) (a : Association) (response : Bool) (number : ℕ) : Type 0 where
@@ -292,13 +292,13 @@ module _ {C : Type 0} (laws : TurnLaws) (meaning : Meaning) (given : Input) (end
   }
 
   module _ (keys : KeyRecord) (others : List Entry)
-      (all : (response : Bool) (number : ℕ) (octets : Octets) → ComesTo meaning given old keys response number octets → Contains others (record { response = response; number = number; octets = octets })) where
-    taken_here : (serial : ℕ) (l : Ledger) → Holds after keys serial l → (response : Bool) (number : ℕ) → ComesHere meaning (for_ike given) old.machine.held serial response number → HasTaken others response number
-    taken_here serial l holds response number comes =
+      (all : (response : Bool) (number : ℕ) (octets : Octets) → wants_memory s ≡ false → ComesTo meaning given old keys response number octets → Contains others (record { response = response; number = number; octets = octets })) where
+    taken_here : (serial : ℕ) (l : Ledger) → Holds after keys serial l → (response : Bool) (number : ℕ) → wants_memory s ≡ false → ComesHere meaning (for_ike given) old.machine.held serial response number → HasTaken others response number
+    taken_here serial l holds response number had comes =
         let c = comes_at meaning (for_ike given) old.machine.held serial response number comes in
         let was = ledger_there old.machine.held serial c.association c.by.opens.keys c.there c.by.opens.keyed in
         let same : l.keys ≡ c.by.opens.keys = keys_stay serial (ledger_of c.association c.by.opens.keys) l was holds.there in
-        has_taken others response number c.by.octets (all response number c.by.octets (record {
+        has_taken others response number c.by.octets (all response number c.by.octets had (record {
           serial = serial;
           association = c.association;
           there = c.there;
@@ -310,5 +310,5 @@ module _ {C : Type 0} (laws : TurnLaws) (meaning : Meaning) (given : Input) (end
     genuine_turn : IsGenuineTurn keys turn_of after others
     genuine_turn serial l holds = (at serial).genuine others (taken_here serial l holds)
 
-  pub is_turn : IsTurn meaning given old (party_with end old stored) (party_with end new (storing end s trace new stored))
+  pub is_turn : IsTurn meaning given old s (party_with end old stored) (party_with end new (storing end s trace new stored))
   is_turn = record { turn = turn_of; takes = takes_turn; genuine = genuine_turn }

@@ -42,7 +42,7 @@ use Rattle.ike.specs.declared.output.Trace.{Trace}
 use Rattle.lockstep.specs.Ends.{Entry}
 use Rattle.lockstep.specs.Parties.{under, Holds, IsSoundParty}
 use Rattle.ike.specs.Payloads.{OpensToItself}
-use Rattle.gateway.specs.Outputs.{OutputView, Repeat, Reply, Request, Sealed}
+use Rattle.gateway.specs.Outputs.{wants_memory, OutputView, Repeat, Reply, Request, Sealed}
 use Rattle.gateway.specs.Requests.{for_ike, IsDatagram}
 use Rattle.gateway.specs.States.{association_in, State}
 use Rattle.gateway.specs.WorldHistories.{Happening, IsWorldTrail}
@@ -57,7 +57,7 @@ use Rattle.gateway.specs.declared.world.stored.End.TheVariants.{A, B}
 use Rattle.gateway.specs.declared.world.stored.Protection.TheVariants as mark
 use Rattle.gateway.proofs.ChildLemmas.{brought, gateway_here, gateway_there, keys_at, opened_with, way_of, Answered, Brought, ChildLaws, ShareCipher}
 use Rattle.gateway.proofs.HistoryLemmas.{does_way}
-use Rattle.gateway.proofs.MoveLemmas.{input_moves, octets_same, said_octets, way_keys, TurnLaws}
+use Rattle.gateway.proofs.MoveLemmas.{input_moves, octets_same, said_octets, wants_none, way_keys, TurnLaws}
 use Rattle.gateway.proofs.PartyLemmas.{at_head, from_map, further_on, has_ledger, ledger_keys, ledger_there, none_some, none_there, sent_there, single, some_is}
 use Rattle.gateway.proofs.SoundWorldLemmas.{both_sound, each_end, sound_after, still_sent, trail_later, BothSound, PartyLaws}
 use Rattle.gateway.proofs.ToldLemmas.{step_tells}
@@ -434,6 +434,7 @@ module _ {C : Type 0} (turns : TurnLaws) (parties : PartyLaws) (kin : ChildLaws)
                       held = record { serial = serial; there = it.stood; keyed = opens.keyed ∙ ap (λ (k : KeyRecord). Some k) before_keys };
                       datagram = subst (λ (o : Option ike.InputView). IsDatagram o message.octets) (sym w.is) (subst (λ (v : ike.InputView). IsDatagram (Some v) message.octets) (sym message.is) refl);
                       opens = opens;
+                      delivered = ap wants_memory w.output ∙ wants_none w.stepped.output;
                     });
                     exchange = by.message.header.exchange;
                     payloads = more.payloads;

@@ -12,6 +12,7 @@ use Rattle.effects.specs.Taking.{Meaning}
 use Rattle.lockstep.specs.Promises.{AreInStep, AreIssuedAndInEffect, AreWithinWindows}
 use Rattle.lockstep.specs.Soundness.{IsInitial}
 use Rattle.gateway.specs.Inputs.{Event}
+use Rattle.gateway.specs.Outputs.{wants_memory}
 use Rattle.gateway.specs.Requests.{for_ike, IsDatagram}
 use Rattle.gateway.specs.WorldHistories.{Happening, IsWorldHistory}
 use Rattle.gateway.specs.WorldParties.{AreBothHeld, HasSent, HasSentSome, HoldsUnder, IsNeverMadeTwice, IsSoundUnder}
@@ -20,12 +21,14 @@ use Rattle.gateway.specs.declared.output.Output.{Output}
 use Rattle.gateway.specs.declared.world.stored.End.{End}
 
 -- A datagram of these octets comes to an end that holds an IKE SA under these keys. It opens there as the
--- other role's request with this Message ID, or as its response to it (sections 3.1 and 3.14).
+-- other role's request with this Message ID, or as its response to it (sections 3.1 and 3.14). One that is refused
+-- on allocation failure counts as lost.
 pub record ComesUnder {C : Type 0} (meaning_of : C → Meaning) (keys : KeyRecord) (response : Bool) (number : ℕ) (octets : Octets) (h : Happening C) : Type 0 where
   pub association : Association
   pub held : HoldsUnder keys h.event.end h.before association
   pub datagram : IsDatagram (for_ike h.event.input) octets
   pub opens : OpensAsMessage (meaning_of (gateway_at h.event.end h.before).caller).plain_of association (other_role association.role) response number octets
+  pub delivered : wants_memory h.said ≡ false
 
 -- The assumption that no message under these keys was forged: what opens so, the other end has sent.
 -- `stored_after` is what is stored after the list.

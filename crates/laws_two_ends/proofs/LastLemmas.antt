@@ -275,6 +275,7 @@ module _ {C : Type 0} (a b : C) (response : Octets) where
     held = record { serial = 1; there = refl; keyed = refl };
     datagram = refl;
     opens = probe_opens response;
+    delivered = refl;
   }
 
   pub answer_comes : ComesUnder (λ _. run_meaning) worked_record true 2 worked_reply (counts a b response)
@@ -283,6 +284,7 @@ module _ {C : Type 0} (a b : C) (response : Octets) where
     held = record { serial = 1; there = refl; keyed = refl };
     datagram = refl;
     opens = reply_opens;
+    delivered = refl;
   }
 
   -- ---- both ends afterwards

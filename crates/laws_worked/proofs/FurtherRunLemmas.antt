@@ -186,6 +186,7 @@ module _ {C : Type 0} (a b : C) where
       plain = record { first = 33; octets = plain_octets 1 13 };
       opened = refl;
     };
+    delivered = refl;
   }
 
   response_comes : ComesUnder (λ _. run_meaning) worked_record true 4 answering_octets (counts_child a b)
@@ -205,6 +206,7 @@ module _ {C : Type 0} (a b : C) where
       plain = record { first = 33; octets = plain_octets 2 14 };
       opened = refl;
     };
+    delivered = refl;
   }
 
   unforged_by_then : OneMessage → OneTime → IsUnforgedUpTo (λ _. run_meaning) worked_record further_answered (further_steps a b) 20 (hands_up_further a b)
