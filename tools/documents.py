@@ -34,9 +34,9 @@ FIGURES = [
     (r"KE and AUTH have 1 to ([\d,]+) octets", "crates/wire/src/numbers.rt", r"KEY_EXCHANGE_LIMIT: usize = ([\d_]+)"),
     (r"\| ([\d,]+) pairs and reserved SPIs at once", "crates/sadb/src/table.rt", r"HELD_LIMIT: usize = ([\d_]+)"),
     (r"\| ([\d,]+) inbound SPIs in a gateway's life", "crates/sadb/src/table.rt", r"GIVEN_LIMIT: usize = ([\d_]+)"),
-    (r"\| ([\d,]+) associations held", "crates/sa_init/src/judging.rt", r"ASSOCIATION_LIMIT: usize = ([\d_]+)"),
-    (r"associations held, of which ([\d,]+) half open", "crates/sa_init/src/judging.rt", r"HALF_OPEN_LIMIT: usize = ([\d_]+)"),
-    (r"from ([\d,]+) half-open associations on cookies", "crates/sa_init/src/judging.rt", r"COOKIE_THRESHOLD: usize = ([\d_]+)"),
+    (r"\| ([\d,]+) IKE SAs held", "crates/sa_init/src/judging.rt", r"ASSOCIATION_LIMIT: usize = ([\d_]+)"),
+    (r"IKE SAs held, of which ([\d,]+) half open", "crates/sa_init/src/judging.rt", r"HALF_OPEN_LIMIT: usize = ([\d_]+)"),
+    (r"from ([\d,]+) half-open IKE SAs on cookies", "crates/sa_init/src/judging.rt", r"COOKIE_THRESHOLD: usize = ([\d_]+)"),
     (r"\| ([\d,]+) SPIs named in one INFORMATIONAL", "crates/deletions/src/deciding.rt", r"NAMED_LIMIT: usize = ([\d_]+)"),
     (r"`passed ([\d,]+) failed 0 unread 0`", "crates/vectors/src/report.rt", r"ENTRIES: u32 = ([\d_]+)"),
 ]

@@ -9,7 +9,10 @@ import re
 import sys
 
 ROOT = pathlib.Path(__file__).resolve().parent.parent
-PAGES = [ROOT / "README.md", ROOT / "CONTRIBUTING.md", ROOT / "CHANGELOG.md", *sorted((ROOT / "docs").glob("*.md")), ROOT / "host" / "README.md"]
+PAGES = [
+    *(ROOT / it for it in ("README.md", "CONTRIBUTING.md", "CHANGELOG.md", "host/README.md", "tools/second_opinion/README.md")),
+    *sorted((ROOT / "docs").glob("*.md")),
+]
 
 MEAN, SENTENCE, PARAGRAPH, CELL = 18, 40, 80, 120
 

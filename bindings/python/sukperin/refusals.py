@@ -1,6 +1,6 @@
 """Why something was dropped or refused, and why a call did nothing."""
 
-# By number, from E1 on (docs/FORMATS.md).
+# By number, from E1 on (docs/ERRORS.md).
 REFUSALS = {
     1: "fewer octets than a header has",
     2: "the length field is not the length of the datagram",
@@ -74,7 +74,7 @@ class Dropped(Refusal):
 
 
 class Refused(Refusal):
-    """The input is refused, and nothing has changed."""
+    """The input is refused, and nothing has changed, but that after E19 of `Inbound.open` the packet's number stays taken."""
 
 
 class CallFault(Error):

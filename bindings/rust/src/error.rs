@@ -93,7 +93,7 @@ impl fmt::Display for Error {
 
 impl std::error::Error for Error {}
 
-/// A refusal of the core, from E1 to E39 (docs/FORMATS.md). It prints as its number and a phrase, as `E16: the number was taken already`.
+/// A refusal of the core, from E1 to E39 (docs/ERRORS.md). It prints as its number and a phrase, as `E16: the number was taken already`.
 #[derive(Clone, Copy, Debug, PartialEq, Eq, PartialOrd, Ord, Hash)]
 pub struct Refusal(u8);
 

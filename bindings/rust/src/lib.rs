@@ -3,7 +3,7 @@
 //!
 //! A [`Gateway`] has no socket, clock, thread or random source of its own. The host gives it what came ([`Gateway::ike`],
 //! [`Gateway::esp`], [`Gateway::outward`], [`Gateway::inward`]), commands ([`Gateway::start`] and the calls below it) and the time
-//! ([`Gateway::tick`]), and carries out what each [`Output`] says. docs/OPERATING.md of the repository tells what is left to
+//! ([`Gateway::tick`]), and carries out what each [`Output`] says. docs/EMBEDDING.md of the repository tells what is left to
 //! the host.
 //!
 //! Each input either is taken, and then it gives an [`Output`] (that something is dropped is an output too), or it fails with an
