@@ -7,8 +7,8 @@
 //! none.
 //!
 //! ```c
-//! suk_handle sender = {0};
-//! struct { uint64_t number, length; } told;
+//! suk_association sender = SUK_NONE;
+//! suk_sealed told;
 //! suk_sender(&sender, 256, key, 1, 6);                               // 0
 //! suk_seal(&sender, 4, payload, 11, room, sizeof room, &told);       // 0, and number 7 in 40 octets
 //! suk_end_association(&sender);
