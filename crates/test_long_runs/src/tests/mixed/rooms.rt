@@ -145,9 +145,7 @@ pub fn fill_rooms(rt: &impl Abort, alloc: Global, times: usize) -> Rooms {
     for _ in 0..times {
         let one = outbound(rt, alloc, &mut random);
         let other = outbound(rt, alloc, &mut random);
-        if let (OwnedInput::Outward { packet: one }, OwnedInput::Outward { packet: other }) = (
-            &one, &other,
-        ) {
+        if let (OwnedInput::Outward { packet: one }, OwnedInput::Outward { packet: other }) = (&one, &other) {
             let packets = [one.as_slice(), other.as_slice()];
             send(rt, alloc, &mut laying, &mut stepping, packets, &mut rooms);
         }
