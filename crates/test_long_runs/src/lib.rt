@@ -5,8 +5,7 @@
 //! is done about children between them, and the look-up beside which a gateway that remembers flows is
 //! held. `worlds` has two ends and random events between them: `game` makes them, `book` writes down
 //! what was sent, and `promises` has what is promised of both. `mixed` gives lists of inputs of all
-//! kinds to two gateways that are alike, to one by `run` and to the other by `step`, and packets on their
-//! way out to one by `lay_in` and to the other by `step`.
+//! kinds to two gateways that are alike, to one by `run` and to the other by `step`.
 #![tactic(auto)]
 
 #[cfg(test)]

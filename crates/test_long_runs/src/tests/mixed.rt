@@ -1,10 +1,8 @@
 //! Lists of inputs of all kinds, of each length from 1 to 70: `run` makes of a list what `step` makes of its
-//! inputs. And packets that are written into a room of the caller's: they are those of steps.
+//! inputs.
 mod packets;
-mod rooms;
 mod twins;
 
-use rooms::fill_rooms;
 use std::process::Abort;
 use twins::{Compared, compare_lists};
 
@@ -23,12 +21,4 @@ fn are_alike(rt: &impl Abort, compared: &Compared) {
 #[test]
 fn lists_of_all_kinds(rt: HostRuntime) {
     are_alike(&rt, &compare_lists(&rt, rt.alloc()));
-}
-
-// 2,000 times two packets, of which one in 16 goes to no site.
-#[test]
-fn packets_in_one_room(rt: HostRuntime) {
-    let rooms = fill_rooms(&rt, rt.alloc(), 2000);
-    assert_eq!(rt; (rooms.other, rooms.overwritten), (0, 0));
-    assert!(rt; rooms.sealed > 3000 && rooms.unsealed > 100);
 }
