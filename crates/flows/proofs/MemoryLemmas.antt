@@ -1,25 +1,27 @@
 -- What a memory holds, by the notes at its places.
-use Rattle.std.proofs.Common.{◌≡◌, ◌⊎◌, ◌+◌, ◌<◌, ◌∙◌, ℕ, Bool, true, false, cond, List, Option, Some, None, inl, inr, refl, sym, ap, subst, arith, length, get_or, get_or-set_same, get_or-set_other, length-set, nat_eq}
+use Rattle.std.proofs.Common.{◌≡◌, ◌≢◌, ◌⊎◌, ◌+◌, ◌<◌, ◌∙◌, ℕ, Bool, true, false, ltb, cond, List, Option, Some, None, inl, inr, refl, sym, ap, subst, arith, length, get_or, get_or-set_same, get_or-set_other, length-set, nat_eq}
 use Rattle.std.proofs.Math.ListN.{set}
 use Rattle.std.specs.Prelude.{map, slice_get}
 use Rattle.std.specs.Option.{option_map}
-use Rattle.std.proofs.lemmas.Bool.Decides.{eqb_tells, nat_tests}
+use Rattle.std.proofs.lemmas.Bool.Decides.{eqb_tells, leb_tells, nat_tests}
 use Rattle.std.proofs.lemmas.Grind.{get_or-set_at}
-use Rattle.std.proofs.lemmas.Option.{slice_get-map, slice_get_within, get_or_from_slice_get, slice_get-get_or}
+use Rattle.std.proofs.lemmas.Option.{slice_get-map, slice_get_past, slice_get_within, get_or_from_slice_get, slice_get-get_or}
 use Rattle.policy.specs.declared.entry.Entry.{Entry}
 use Rattle.policy.specs.declared.flow.Flow.{Flow}
 use Rattle.sadb.specs.Database.{PairMap}
 use Rattle.flows.specs.declared.memory.Answer.{Answer}
 use Rattle.flows.specs.declared.memory.Note.{Note}
-use Rattle.flows.specs.Memory.{AllRight, answer_in, Holds, HoldsNoMore, IsKept, Notes}
+use Rattle.flows.specs.Memory.{AllRight, answer_in, Holds, HoldsNoMore, IsInPlace, IsKept, Notes, StaysButAt}
+use Rattle.flows.specs.Places.{place_of}
+use Rattle.flows.specs.declared.treatment.Treatment.{Treatment}
 use Rattle.flows.specs.Treatments.{IsTreatment}
 
 -- the note by which a place shows an answer
-record Shows (epoch : ℕ) (kept : Option Note) (answer : Answer) : Type 0 where
-  note : Note
-  is : kept ≡ Some note
-  present : note.epoch ≡ epoch
-  same : note.answer ≡ answer
+pub record Shows (epoch : ℕ) (kept : Option Note) (answer : Answer) : Type 0 where
+  pub note : Note
+  pub is : kept ≡ Some note
+  pub present : note.epoch ≡ epoch
+  pub same : note.answer ≡ answer
 
 shows : (epoch : ℕ) (kept : Option Note) (answer : Answer) → answer_in epoch kept ≡ Some answer → Shows epoch kept answer
 shows epoch None answer is = absurd cc
@@ -36,6 +38,28 @@ shown_by epoch note is =
       | false ↦ λ same. absurd (grind (arith, nat_tests))
     ] refl
 
+-- a place whose note shows an answer
+pub record Stands (epoch : ℕ) (places : List (Option Note)) (place : ℕ) (answer : Answer) : Type 0 where
+  pub note : Note
+  pub there : slice_get places place ≡ Some (Some note)
+  pub present : note.epoch ≡ epoch
+  pub same : note.answer ≡ answer
+
+stands_by : (epoch : ℕ) (places : List (Option Note)) (place : ℕ) (answer : Answer) (kept : Option (Option Note)) → slice_get places place ≡ kept
+    → option_map (answer_in epoch) kept ≡ Some (Some answer) → Stands epoch places place answer
+stands_by epoch places place answer None at is = absurd cc
+stands_by epoch places place answer (Some kept) at is =
+    let shown : Shows epoch kept answer = shows epoch kept answer (cc) in
+    record { note = shown.note; there = at ∙ ap Some shown.is; present = shown.present; same = shown.same }
+
+pub stands : (epoch : ℕ) (places : List (Option Note)) (place : ℕ) (answer : Answer) → slice_get (map (answer_in epoch) places) place ≡ Some (Some answer) → Stands epoch places place answer
+stands epoch places place answer is = stands_by epoch places place answer (slice_get places place) refl (sym (slice_get-map (answer_in epoch) places place) ∙ is)
+
+-- and back
+pub shown_at : (epoch : ℕ) (places : List (Option Note)) (place : ℕ) (answer : Answer) → Stands epoch places place answer → slice_get (map (answer_in epoch) places) place ≡ Some (Some answer)
+shown_at epoch places place answer is =
+    slice_get-map (answer_in epoch) places place ∙ ap (option_map (answer_in epoch)) is.there ∙ ap Some (shown_by epoch is.note is.present ∙ ap Some is.same)
+
 -- a place of a memory that holds an answer
 record IsNoted (epoch : ℕ) (places : List (Option Note)) (answer : Answer) : Type 0 where
   place : ℕ
@@ -44,23 +68,16 @@ record IsNoted (epoch : ℕ) (places : List (Option Note)) (answer : Answer) : T
   present : note.epoch ≡ epoch
   same : note.answer ≡ answer
 
-noted_at : (epoch : ℕ) (places : List (Option Note)) (place : ℕ) (answer : Answer) (kept : Option (Option Note)) → slice_get places place ≡ kept
-    → option_map (answer_in epoch) kept ≡ Some (Some answer) → IsNoted epoch places answer
-noted_at epoch places place answer None at is = absurd cc
-noted_at epoch places place answer (Some kept) at is =
-    let shown : Shows epoch kept answer = shows epoch kept answer (cc) in
-    record { place = place; note = shown.note; there = at ∙ ap Some shown.is; present = shown.present; same = shown.same }
-
 noted : (epoch : ℕ) (places : List (Option Note)) (answer : Answer) → Holds (map (answer_in epoch) places) answer → IsNoted epoch places answer
 noted epoch places answer is =
-    noted_at epoch places is.place answer (slice_get places is.place) refl (sym (slice_get-map (answer_in epoch) places is.place) ∙ is.there)
+    let it : Stands epoch places is.place answer = stands epoch places is.place answer is.there in
+    record { place = is.place; note = it.note; there = it.there; present = it.present; same = it.same }
 
--- and back
 holds : (epoch : ℕ) (places : List (Option Note)) (answer : Answer) → IsNoted epoch places answer → Holds (map (answer_in epoch) places) answer
 holds epoch places answer is =
     record {
       place = is.place;
-      there = slice_get-map (answer_in epoch) places is.place ∙ ap (option_map (answer_in epoch)) is.there ∙ ap Some (shown_by epoch is.note is.present ∙ ap Some is.same);
+      there = shown_at epoch places is.place answer (record { note = is.note; there = is.there; present = is.present; same = is.same });
     }
 
 -- ---- forgetting
@@ -74,16 +91,49 @@ forgotten epoch places kept answer held =
 
 -- ---- asking
 
+-- what is recalled stands at its place
 pub recalled : (epoch : ℕ) (places : List (Option Note)) (place : ℕ) (kept : Option Note) (note : Note) (flow : Flow) → place < length places → kept ≡ get_or places place kept → kept ≡ Some note
-    → note.epoch ≡ epoch → note.answer.flow ≡ flow → Holds (map (answer_in epoch) places) (record { flow = flow; treatment = note.answer.treatment })
+    → note.epoch ≡ epoch → note.answer.flow ≡ flow → slice_get (map (answer_in epoch) places) place ≡ Some (Some (record { flow = flow; treatment = note.answer.treatment }))
 recalled epoch places place kept note flow within at is present same =
-    holds epoch places (record { flow = flow; treatment = note.answer.treatment }) (record {
-      place = place;
+    shown_at epoch places place (record { flow = flow; treatment = note.answer.treatment }) (record {
       note = note;
       there = slice_get-get_or places place kept within ∙ ap Some (sym at ∙ is);
       present = present;
       same = ap (λ (f : Flow). record { flow = f; treatment = note.answer.treatment }) same;
     })
+
+pub one_note : (a b : Note) → Some a ≡ Some b → a ≡ b
+one_note a b is = cc
+
+-- what stands at a place is what is recalled there
+pub shows_it : (epoch : ℕ) (places : List (Option Note)) (place : ℕ) (kept : Option Note) (answer : Answer) → place < length places → kept ≡ get_or places place kept
+    → slice_get (map (answer_in epoch) places) place ≡ Some (Some answer) → Shows epoch kept answer
+shows_it epoch places place kept answer within at is =
+    let there : slice_get places place ≡ Some kept = slice_get-get_or places place kept within ∙ ap Some (sym at) in
+    let shown : Some (answer_in epoch kept) ≡ Some (Some answer) = sym (slice_get-map (answer_in epoch) places place ∙ ap (option_map (answer_in epoch)) there) ∙ is in
+    shows epoch kept answer (cc)
+
+-- The same of a memory that is looked at, where its places were read.
+pub shows_in_place : (epoch : ℕ) (places read : List (Option Note)) (memory : List (Option Answer)) (flow : Flow) (treatment : Treatment) (place : ℕ) (kept : Option Note) → read ≡ places
+    → map (answer_in epoch) places ≡ memory → place ≡ place_of flow → place < length read → kept ≡ get_or read place kept
+    → IsInPlace memory (record { flow = flow; treatment = treatment }) → Shows epoch kept (record { flow = flow; treatment = treatment })
+shows_in_place epoch places read memory flow treatment place kept read_is memory_is place_is within at is =
+    shows_it epoch places place kept (record { flow = flow; treatment = treatment })
+    (subst (λ (l : List (Option Note)). place < length l) read_is within)
+    (subst (λ (l : List (Option Note)). kept ≡ get_or l place kept) read_is at)
+    (subst (λ (p : ℕ). slice_get (map (answer_in epoch) places) p ≡ Some (Some (record { flow = flow; treatment = treatment }))) (sym place_is)
+    (subst (λ (m : List (Option Answer)). IsInPlace m (record { flow = flow; treatment = treatment })) (sym memory_is) is))
+
+-- and nothing stands past the places
+pub nothing_past : (epoch : ℕ) (places read : List (Option Note)) (memory : List (Option Answer)) (answer : Answer) (place : ℕ) → read ≡ places → map (answer_in epoch) places ≡ memory
+    → place ≡ place_of answer.flow → false ≡ ltb place (length read) → IsInPlace memory answer → ⊥
+nothing_past epoch places read memory answer place read_is memory_is place_is past is =
+    let stood : Stands epoch places place answer = stands epoch places place answer
+    (subst (λ (p : ℕ). slice_get (map (answer_in epoch) places) p ≡ Some (Some answer)) (sym place_is)
+    (subst (λ (m : List (Option Answer)). IsInPlace m answer) (sym memory_is) is)) in
+    let within : place < length places = slice_get_within places place (Some stood.note) stood.there in
+    let beyond : false ≡ ltb place (length places) = subst (λ (l : List (Option Note)). false ≡ ltb place (length l)) read_is past in
+    grind (arith, nat_tests)
 
 -- ---- making the places
 
@@ -146,16 +196,31 @@ notes epoch places place answer = λ other held.
       | inr before ↦ inr (holds epoch places other (record { place = note.place; note = note.note; there = before; present = note.present; same = note.same }))
     ])
 
-pub holds_noted : (epoch : ℕ) (places : List (Option Note)) (place : ℕ) (answer : Answer) → place < length places → Holds (map (answer_in epoch) (set places place (Some (record { epoch = epoch; answer = answer })))) answer
-holds_noted epoch places place answer within =
-    holds epoch (set places place (Some (record { epoch = epoch; answer = answer }))) answer (record {
-      place = place;
+pub noted_here : (epoch : ℕ) (places : List (Option Note)) (place : ℕ) (answer : Answer) → place < length places
+    → slice_get (map (answer_in epoch) (set places place (Some (record { epoch = epoch; answer = answer })))) place ≡ Some (Some answer)
+noted_here epoch places place answer within =
+    shown_at epoch (set places place (Some (record { epoch = epoch; answer = answer }))) place answer (record {
       note = record { epoch = epoch; answer = answer };
       there = slice_get-get_or (set places place (Some (record { epoch = epoch; answer = answer }))) place None (omega (arith, length-set {A = Option Note}))
           ∙ ap Some (get_or-set_same places place (Some (record { epoch = epoch; answer = answer })) None within);
       present = refl;
       same = refl;
     })
+
+unwritten : (places : List (Option Note)) (place other : ℕ) (new : Option Note) → other ≢ place → slice_get (set places place new) other ≡ slice_get places other
+unwritten places place other new apart =
+    elim (leb_tells (length places) other) [
+      | inl (_, past) ↦ slice_get_past (set places place new) other (omega (arith, length-set {A = Option Note})) ∙ sym (slice_get_past places other past)
+      | inr (_, within) ↦
+          slice_get-get_or (set places place new) other new (omega (arith, length-set {A = Option Note}))
+          ∙ ap Some (get_or-set_other places place other new new apart)
+          ∙ sym (slice_get-get_or places other new within)
+    ]
+
+pub others_stay : (epoch : ℕ) (places : List (Option Note)) (place : ℕ) (new : Option Note) → StaysButAt place (map (answer_in epoch) places) (map (answer_in epoch) (set places place new))
+others_stay epoch places place new = λ other apart.
+    (slice_get-map (answer_in epoch) (set places place new) other ∙ ap (option_map (answer_in epoch)) (unwritten places place other new apart)
+    ∙ sym (slice_get-map (answer_in epoch) places other))
 
 pub all_right : (policy : List Entry) (pairs : PairMap) (old between new : List (Option Answer)) (noted_now : Answer) → AllRight policy pairs old → HoldsNoMore old between → Notes between noted_now new
     → IsTreatment policy pairs noted_now.flow noted_now.treatment → AllRight policy pairs new

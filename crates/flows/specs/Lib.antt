@@ -1,3 +1,4 @@
+pub mod Places
 pub mod Treatments
 pub mod Memory
 pub mod Staying

@@ -1,17 +1,30 @@
 -- What is remembered of flows: what each place holds.
-use Rattle.std.specs.Prelude.{◌≡◌, ◌⊎◌, ◌<◌, ◌≤◌, ◌==◌, ℕ, List, Option, Some, None, if◌then◌else◌, length, slice_get}
+use Rattle.std.specs.Prelude.{◌≡◌, ◌≢◌, ◌⊎◌, ◌<◌, ◌≤◌, ◌==◌, ℕ, List, Option, Some, None, if◌then◌else◌, length, slice_get}
 use Rattle.policy.specs.declared.entry.Entry.{Entry}
 use Rattle.policy.specs.declared.flow.Flow.{Flow}
 use Rattle.sadb.specs.Database.{PairMap}
 use Rattle.flows.specs.declared.memory.Answer.{Answer}
 use Rattle.flows.specs.declared.memory.Note.{Note}
 use Rattle.flows.specs.declared.treatment.Treatment.{Treatment}
+use Rattle.flows.specs.Places.{place_of}
 use Rattle.flows.specs.Treatments.{Counts, IsTreatment}
 
 -- a place holds the answer
 pub record Holds (memory : List (Option Answer)) (answer : Answer) : Type 0 where
   pub place : ℕ
   pub there : slice_get memory place ≡ Some (Some answer)
+
+-- it stands at the place of its flow, where it is looked for
+abbrev pub IsInPlace : List (Option Answer) → Answer → Type 0
+IsInPlace memory answer = slice_get memory (place_of answer.flow) ≡ Some (Some answer)
+
+-- all places but one hold what they held
+abbrev pub StaysButAt : ℕ → List (Option Answer) → List (Option Answer) → Type 0
+StaysButAt place old new = (other : ℕ) → other ≢ place → slice_get new other ≡ slice_get old other
+
+-- where there were places, all but that of a flow hold what they held
+abbrev pub StaysBut : Flow → List (Option Answer) → List (Option Answer) → Type 0
+StaysBut flow old new = 0 < length old → StaysButAt (place_of flow) old new
 
 abbrev pub HoldsNone : List (Option Answer) → Type 0
 HoldsNone memory = (answer : Answer) → ¬ Holds memory answer
@@ -37,11 +50,11 @@ AllRight policy pairs memory = (flow : Flow) (treatment : Treatment) → Remembe
 abbrev pub HasItsPlaces : List (Option Answer) → Type 0
 HasItsPlaces memory = 0 < length memory → length memory ≡ 4096
 
--- what a look-up would find of the flow is held
+-- what a look-up would find of the flow is held, where it is looked for
 pub record HoldsTreatmentOf (policy : List Entry) (pairs : PairMap) (memory : List (Option Answer)) (flow : Flow) : Type 0 where
   pub treatment : Treatment
   pub found : IsTreatment policy pairs flow treatment
-  pub held : Holds memory (record { flow = flow; treatment = treatment })
+  pub held : IsInPlace memory (record { flow = flow; treatment = treatment })
 
 -- How the answers are kept. No public clause speaks of this.
 

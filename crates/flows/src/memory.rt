@@ -1,6 +1,8 @@
 //! A memory of what is done with flows.
-ghost use Rattle.std.specs.Prelude.{◌≡◌, ◌<◌, IfSome, IsTrue, ◌↔◌, length};
-ghost use Rattle.flows.specs.Memory.{AllRight, HasItsPlaces, Holds, HoldsNone, HoldsNoMore, Notes};
+ghost use Rattle.std.specs.Prelude.{◌≡◌, ◌<◌, ℕ, IfSome, IsTrue, ◌↔◌, length, slice_get, Some};
+ghost use Rattle.flows.specs.Memory.{AllRight, HasItsPlaces, Holds, HoldsNone, HoldsNoMore, IsInPlace, Notes};
+ghost use Rattle.flows.specs.Memory.{StaysBut, StaysButAt};
+ghost use Rattle.flows.specs.declared.treatment.Treatment.{Treatment};
 ghost use Rattle.flows.specs.Treatments.{IsTreatment};
 
 use crate::place::{PLACES, place_of};
@@ -78,18 +80,20 @@ impl FlowMemory {
     }
 
     /// What is done with a flow: what was remembered, or else what [`look_up`] finds, which is remembered
-    /// from now on. Takes memory where there are no places yet, and does without where there is none.
+    /// from now on, in place of what was remembered of another flow with the same place. Takes memory where
+    /// there are no places yet, and does without where there is none.
     pub fn treatment(&mut self, table: &Table, policy: &Policy, flow: &Flow) -> Treatment
         requires { AllRight policy.now table.now.pairs self.old }
         ensures right { IsTreatment policy.now table.now.pairs flow.now result }
         ensures all_right { AllRight policy.now table.now.pairs self.new }
         // Where there are places, it is remembered.
-        ensures held { 0 < length self.new → Holds self.new (record { flow = flow.now; treatment = result }) }
-        // Places that were made stay.
+        ensures held { 0 < length self.new
+            → IsInPlace self.new (record { flow = flow.now; treatment = result }) }
+        // Places that were made stay, and what all others hold.
         ensures kept { 0 < length self.old → 0 < length self.new }
+        ensures others { StaysBut flow.now self.old self.new }
     {
-        let place = place_of(flow);
-        if let Some(treatment) = self.recall(place, flow) {
+        if let Some(treatment) = self.recalled(flow) {
             if treatment.counts(table) {
                 return treatment;
             }
@@ -97,7 +101,7 @@ impl FlowMemory {
         let treatment = look_up(table, policy, flow);
         self.make_places();
         self.note(
-            place,
+            place_of(flow),
             Answer {
                 flow: *flow,
                 treatment,
@@ -106,13 +110,16 @@ impl FlowMemory {
         treatment
     }
 
-    // What a place holds about a flow.
-    fn recall(&self, place: usize, flow: &Flow) -> Option<Treatment>
-        ensures { IfSome result
-            (λ treatment. Holds self.now (record { flow = flow.now; treatment = treatment })) }
+    /// What is remembered of a flow, whether or not the pair that it names is still Live.
+    pub fn recalled(&self, flow: &Flow) -> Option<Treatment>
+        ensures right { IfSome result
+            (λ treatment. IsInPlace self.now (record { flow = flow.now; treatment = treatment })) }
+        ensures found { (treatment : Treatment)
+            → IsInPlace self.now (record { flow = flow.now; treatment = treatment })
+            → result ≡ Some treatment }
     {
         // By reference: a note is long, and most of it is only compared.
-        match self.places.get(place)? {
+        match self.places.get(place_of(flow))? {
             Some(note) if note.epoch == self.epoch && is_same(&note.answer.flow, flow) => {
                 Some(note.answer.treatment)
             }
@@ -124,7 +131,7 @@ impl FlowMemory {
     fn make_places(&mut self)
         ensures no_more { HoldsNoMore self.old self.new }
         ensures made { HasItsPlaces self.new }
-        ensures kept { 0 < length self.old → 0 < length self.new }
+        ensures kept { 0 < length self.old → self.new ≡ self.old }
     {
         if self.places.is_empty() {
             let _ = self.places.resize(PLACES, None);
@@ -134,7 +141,8 @@ impl FlowMemory {
     // Notes an answer at a place, if the place was made.
     fn note(&mut self, place: usize, answer: Answer)
         ensures notes { Notes self.old answer self.new }
-        ensures noted { place < length self.old → Holds self.new answer }
+        ensures noted { place < length self.old → slice_get self.new place ≡ Some (Some answer) }
+        ensures others { StaysButAt place self.old self.new }
         ensures length { length self.new ≡ length self.old }
     {
         if place < self.places.len() {

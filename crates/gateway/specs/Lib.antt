@@ -24,6 +24,7 @@ pub mod Contents
 pub mod Lengths
 pub mod Histories
 pub mod Staying
+pub mod Remembering
 pub mod Requests
 pub mod Lines
 pub mod Moments

@@ -10,11 +10,13 @@ ghost use Rattle.gateway.specs.Groups.{packet_in};
 ghost use Rattle.gateway.specs.Inputs.{input_view};
 ghost use Rattle.gateway.specs.Laying.{finished_output};
 ghost use Rattle.gateway.specs.Outputs.{output_view, view_of_outcome};
+ghost use Rattle.gateway.specs.Remembering.{ForgetsWith, RemembersAt};
 ghost use Rattle.gateway.specs.Rows.{LaysIn};
 ghost use Rattle.sadb.specs.Laying.{KeepsSenders};
 ghost use Rattle.gateway.specs.Steps.{AdmitsPacket, DoesInput, ReceivesPacket, SendsPacket, StepsIke};
 ghost use Rattle.effects.specs.Taking.{meaning_of};
 ghost use Rattle.traffic.specs.Outcomes.{outcome_of_arrival};
+ghost use Rattle.traffic.specs.Remembering.{RemembersItsFlow};
 
 use crate::laying::finished;
 use crate::{Input, Output, Reason, Traced};
@@ -56,6 +58,8 @@ pub(crate) fn take<'a, C: Sealer + Agreement + Proof>(
     ensures timely { IsTimely ike.new }
     ensures reservations { AreReservationsHeld ike.new.held table.new }
     ensures right { AllRight policy.now table.new.pairs flows.new }
+    ensures remembered { RemembersAt policy.now table.old.pairs (input_view input.now) result.trace flows.old
+        flows.new }
 {
     soundness_asks_for_reservations();
     no_spi_is_lost();
@@ -150,6 +154,7 @@ fn step_ike<'a, C: Sealer + Agreement + Proof>(
     ensures timely { IsTimely ike.new }
     ensures reservations { AreReservationsHeld ike.new.held table.new }
     ensures right { AllRight policy.now table.new.pairs flows.new }
+    ensures remembered { ForgetsWith result.trace flows.old flows.new }
 {
     answers_stay_right();
     what_is_due_comes_in_time();
@@ -220,6 +225,7 @@ pub(crate) fn lay<'a>(
     ensures sound { IsSoundMachine ike.now table.new }
     ensures reservations { AreReservationsHeld ike.now.held table.new }
     ensures right { AllRight policy.now table.new.pairs flows.new }
+    ensures remembered { RemembersItsFlow policy.now table.old.pairs packet.now flows.old flows.new }
     ensures senders { KeepsSenders table.old.pairs table.new.pairs }
 {
     soundness_asks_for_reservations();
@@ -245,6 +251,7 @@ pub(crate) fn lay_in<'a>(
     ensures sound { IsSoundMachine ike.now table.new }
     ensures reservations { AreReservationsHeld ike.now.held table.new }
     ensures right { AllRight policy.now table.new.pairs flows.new }
+    ensures remembered { RemembersItsFlow policy.now table.old.pairs packet.now flows.old flows.new }
     ensures senders { KeepsSenders table.old.pairs table.new.pairs }
 {
     soundness_asks_for_reservations();
@@ -265,6 +272,7 @@ fn lay_packet_in<'a>(
         (length packet.now) room.old result table.new.pairs room.new }
     ensures reserved { table.new.reserved ≡ table.old.reserved }
     ensures right { AllRight policy.now table.new.pairs flows.new }
+    ensures remembered { RemembersItsFlow policy.now table.old.pairs packet.now flows.old flows.new }
     ensures senders { KeepsSenders table.old.pairs table.new.pairs }
 {
     senders_stay();
@@ -282,6 +290,7 @@ fn send_packet<'a>(
     ensures sent { SendsPacket policy.now table.old packet.now (output_view result) table.new }
     ensures reserved { table.new.reserved ≡ table.old.reserved }
     ensures right { AllRight policy.now table.new.pairs flows.new }
+    ensures remembered { RemembersItsFlow policy.now table.old.pairs packet.now flows.old flows.new }
 {
     let laid = lay_packet(alloc, table, flows, policy, packet);
     finished(table, laid, None)
@@ -299,6 +308,7 @@ fn lay_packet<'a>(
         (output_view (finished_output table.new.pairs result)) table.new }
     ensures reserved { table.new.reserved ≡ table.old.reserved }
     ensures right { AllRight policy.now table.new.pairs flows.new }
+    ensures remembered { RemembersItsFlow policy.now table.old.pairs packet.now flows.old flows.new }
     ensures senders { KeepsSenders table.old.pairs table.new.pairs }
 {
     senders_stay();

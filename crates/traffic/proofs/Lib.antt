@@ -2,6 +2,7 @@ mod VerdictLemmas
 mod OpeningLemmas
 mod ReceivingLemmas
 mod ReceptionLemmas
+mod RememberingLemmas
 mod SendingLemmas
 mod BehindLemmas
 mod RoomLemmas

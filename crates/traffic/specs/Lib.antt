@@ -4,6 +4,7 @@ pub mod Outcomes
 pub mod Laying
 pub mod Verdicts
 pub mod Receiving
+pub mod Remembering
 pub mod Sending
 pub mod Behind
 pub mod Admitting

@@ -1,7 +1,7 @@
 //! Packets on their way out (RFC 4301, section 5.1).
 ghost use Rattle.std.specs.Prelude.{◌≡◌, ◌+◌, ◌<◌, ◌≤◌, IfErr, IfOk, IsOk, length, vec_len};
 ghost use Rattle.std.specs.Vec.{vec_capacity};
-ghost use Rattle.flows.specs.Memory.{AllRight, HoldsTreatmentOf};
+ghost use Rattle.flows.specs.Memory.{AllRight};
 ghost use Rattle.flows.specs.Treatments.{action_of, IsCarriedSo};
 ghost use Rattle.policy.specs.declared.entry.Action.TheVariants.{Protect};
 ghost use Rattle.policy.specs.Packets.{IsFlowOf, IsInnerRefusal};
@@ -11,6 +11,7 @@ ghost use Rattle.sadb.specs.Database.{IsOutbound};
 ghost use Rattle.traffic.specs.Behind.{DepartsBehind, DepartsIn, ProtectsBehind, ProtectsIn, SendsBehind, SendsIn};
 ghost use Rattle.traffic.specs.Laying.{finished_outcome};
 ghost use Rattle.traffic.specs.Outcomes.{outcome_of_departure, outcome_of_laid};
+ghost use Rattle.traffic.specs.Remembering.{RemembersItsFlow};
 ghost use Rattle.traffic.specs.Sending.{HasUnspentCarrier, HasNumberAt, IsToBeSealed, Sends};
 
 use crate::PacketFault;
@@ -114,13 +115,7 @@ pub fn send_remembering<'a>(
     ensures memory { IfErr result
         (λ _. IsToBeSealed table.old policy.now packet.now × (table.new ≡ table.old)) }
     ensures right { AllRight policy.now table.new.pairs flows.new }
-    // Where the packet can't be read, nothing is remembered or forgotten.
-    ensures unread { (fault : InnerFault) → IsInnerRefusal packet.now fault → flows.new ≡ flows.old }
-    // Where there are places, the flow is remembered.
-    ensures held { (flow : Flow) → IsFlowOf packet.now flow → 0 < length flows.new
-        → HoldsTreatmentOf policy.now table.old.pairs flows.new flow }
-    // Places that were made stay.
-    ensures kept { 0 < length flows.old → 0 < length flows.new }
+    ensures remembered { RemembersItsFlow policy.now table.old.pairs packet.now flows.old flows.new }
 {
     let laid = lay(alloc, table, flows, policy, packet)?;
     Ok(finish(table, laid))
@@ -141,13 +136,7 @@ pub fn lay<'a>(
     ensures memory { IfErr result
         (λ _. IsToBeSealed table.old policy.now packet.now × (table.new ≡ table.old)) }
     ensures right { AllRight policy.now table.new.pairs flows.new }
-    // Where the packet can't be read, nothing is remembered or forgotten.
-    ensures unread { (fault : InnerFault) → IsInnerRefusal packet.now fault → flows.new ≡ flows.old }
-    // Where there are places, the flow is remembered.
-    ensures held { (flow : Flow) → IsFlowOf packet.now flow → 0 < length flows.new
-        → HoldsTreatmentOf policy.now table.old.pairs flows.new flow }
-    // Places that were made stay.
-    ensures kept { 0 < length flows.old → 0 < length flows.new }
+    ensures remembered { RemembersItsFlow policy.now table.old.pairs packet.now flows.old flows.new }
 {
     let mut octets = Vec::new(alloc);
     let laid = lay_behind(table, flows, policy, packet, &mut octets)?;
@@ -171,13 +160,7 @@ pub fn lay_behind<'a>(
         × (table.new ≡ table.old) × (out.new.items ≡ out.old.items)) }
     ensures room { vec_len out.old + (length packet.now + 29) ≤ vec_capacity out.old → IsOk result }
     ensures right { AllRight policy.now table.new.pairs flows.new }
-    // Where the packet can't be read, nothing is remembered or forgotten.
-    ensures unread { (fault : InnerFault) → IsInnerRefusal packet.now fault → flows.new ≡ flows.old }
-    // Where there are places, the flow is remembered.
-    ensures held { (flow : Flow) → IsFlowOf packet.now flow → 0 < length flows.new
-        → HoldsTreatmentOf policy.now table.old.pairs flows.new flow }
-    // Places that were made stay.
-    ensures kept { 0 < length flows.old → 0 < length flows.new }
+    ensures remembered { RemembersItsFlow policy.now table.old.pairs packet.now flows.old flows.new }
 {
     answers_stay_right();
     no_pair_comes();
@@ -207,13 +190,7 @@ pub fn lay_in<'a>(
     requires fits { length packet.now + 29 ≤ length room.old }
     ensures sent { SendsIn table.old policy.now packet.now room.old result table.new room.new }
     ensures right { AllRight policy.now table.new.pairs flows.new }
-    // Where the packet can't be read, nothing is remembered or forgotten.
-    ensures unread { (fault : InnerFault) → IsInnerRefusal packet.now fault → flows.new ≡ flows.old }
-    // Where there are places, the flow is remembered.
-    ensures held { (flow : Flow) → IsFlowOf packet.now flow → 0 < length flows.new
-        → HoldsTreatmentOf policy.now table.old.pairs flows.new flow }
-    // Places that were made stay.
-    ensures kept { 0 < length flows.old → 0 < length flows.new }
+    ensures remembered { RemembersItsFlow policy.now table.old.pairs packet.now flows.old flows.new }
 {
     answers_stay_right();
     no_pair_comes();

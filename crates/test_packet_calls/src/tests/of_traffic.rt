@@ -2,3 +2,4 @@ mod fixture;
 mod memory;
 mod outward;
 mod packets;
+mod remembered;

@@ -1,13 +1,11 @@
 use Rattle.std.specs.Prelude.{◌≡◌}
-use Rattle.std.proofs.Common.{subst}
-use Rattle.flows.specs.Memory.{HoldsTreatmentOf}
 use Rattle.flows.specs.Staying.{NoneComes}
 use Rattle.flows.specs.Treatments.{action_of}
 use Rattle.policy.specs.declared.entry.Action.TheVariants.{Protect}
-use Rattle.policy.specs.declared.flow.Flow.{Flow}
 use Rattle.sadb.specs.Database.{Database}
 use Rattle.traffic.specs.Sending.{HasUnspentCarrier}
 use Rattle.traffic.proofs.FollowingLemmas.{Keeps}
+use Rattle.traffic.proofs.RememberingLemmas.{remembers_one, remembers_none}
 use Rattle.traffic.proofs.BehindLemmas.{departs_behind, sent_behind}
 use Rattle.traffic.proofs.departure.lay_behind.Goals as goal
 
@@ -29,11 +27,9 @@ returns-in-Ok-clause-right c =
     c.args.table.now c.args.policy.now c.args.packet.now c.args.out.now.items c.depart.result c.depart.new.table c.depart.new.out.items (returns-in-Ok-clause-sent c) c.depart.ensures.memory)
     c.treatment-treatment.ensures.all_right
 
-pub returns-in-Ok-clause-held : goal.returns-in-Ok-clause-held
-returns-in-Ok-clause-held c = λ flow flow_is some.
-    subst (λ (f : Flow). HoldsTreatmentOf c.args.policy.now c.args.table.now.pairs c.treatment-treatment.new.self f)
-    (c.flows_are_determined.ensures.flow c.args.packet.now c.read_inner.new.flow flow c.in-Ok.ensures.flow flow_is)
-    (record { treatment = c.treatment-treatment.result; found = c.treatment-treatment.ensures.right; held = c.treatment-treatment.ensures.held some })
+pub returns-in-Ok-clause-remembered : goal.returns-in-Ok-clause-remembered
+returns-in-Ok-clause-remembered c = remembers_one c.args.policy.now c.args.table.now.pairs c.args.packet.now c.read_inner.new.flow c.treatment-treatment.result c.args.flows.now c.treatment-treatment.new.self
+    c.flows_are_determined.ensures.flow c.flows_are_determined.ensures.apart c.in-Ok.ensures.flow c.treatment-treatment.ensures.right c.treatment-treatment.ensures.held c.treatment-treatment.ensures.kept c.treatment-treatment.ensures.others
 
-pub returns-in-Ok-clause-unread : goal.returns-in-Ok-clause-unread
-returns-in-Ok-clause-unread c = λ fault refused. absurd (c.flows_are_determined.ensures.apart c.args.packet.now c.read_inner.new.flow fault c.in-Ok.ensures.flow refused)
+pub returns-in-Err-clause-remembered : goal.returns-in-Err-clause-remembered
+returns-in-Err-clause-remembered c = remembers_none c.args.policy.now c.args.table.now.pairs c.args.packet.now c.in-Err.fault c.args.flows.now c.flows_are_determined.ensures.apart c.in-Err.ensures.refused
