@@ -7,7 +7,9 @@
  *
  * It prints how long a refused call takes, how many times as fast a list of 64 packets is as so many single calls (the median of the
  * rounds, 200 if none are named), how many nanoseconds a packet of a list takes at least, and how often each takes memory. The status is 1 where a refused call takes 10 ns, where a list is
- * slower, or where ESP packets that come take memory. Times are of the processor; glibc's allocator is asked behind the one here. */
+ * slower, or where ESP packets that come take memory. The clock is the one that is read without a call of the system, as that of
+ * tools/crossing.py's other programs is: the processor's own would add a call to each list, and empty the TLB before it on a virtual
+ * machine. Whatever else runs slows a round, so the fastest and the median count. glibc's allocator is asked behind the one here. */
 #include "tests.h"
 #include <time.h>
 
@@ -31,7 +33,7 @@ void *realloc(void *block, size_t length) {
 
 static double now(void) {
     struct timespec time;
-    clock_gettime(CLOCK_THREAD_CPUTIME_ID, &time);
+    clock_gettime(CLOCK_MONOTONIC, &time);
     return (double)time.tv_sec * 1e9 + (double)time.tv_nsec;
 }
 
