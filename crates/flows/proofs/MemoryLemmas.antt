@@ -1,10 +1,11 @@
 -- What a memory holds, by the notes at its places.
 use Rattle.std.proofs.Common.{◌≡◌, ◌≢◌, ◌⊎◌, ◌+◌, ◌<◌, ◌∙◌, ℕ, Bool, true, false, ltb, cond, List, Option, Some, None, inl, inr, refl, sym, ap, subst, arith, length, get_or, get_or-set_same, get_or-set_other, length-set, nat_eq}
-use Rattle.std.proofs.Math.ListN.{set}
+use Rattle.std.proofs.Math.ListN.{replicate, set}
 use Rattle.std.specs.Prelude.{map, slice_get}
 use Rattle.std.specs.Option.{option_map}
 use Rattle.std.proofs.lemmas.Bool.Decides.{eqb_tells, leb_tells, nat_tests}
 use Rattle.std.proofs.lemmas.Grind.{get_or-set_at}
+use Rattle.std.proofs.lemmas.List.{get_or-replicate, length-replicate}
 use Rattle.std.proofs.lemmas.Option.{slice_get-map, slice_get_past, slice_get_within, get_or_from_slice_get, slice_get-get_or}
 use Rattle.policy.specs.declared.entry.Entry.{Entry}
 use Rattle.policy.specs.declared.flow.Flow.{Flow}
@@ -88,6 +89,22 @@ forgotten epoch places kept answer held =
     let past = kept.past note.place note.note note.there in
     let present = note.present in
     omega arith
+
+-- what holds of no note holds of an empty place alone
+pub none_alone : (T : Option Note → Type 0) → ((note : Note) → T (Some note) → ⊥) → (kept : Option Note) → T kept → kept ≡ None
+none_alone T never None is = refl
+none_alone T never (Some note) is = absurd (never note is)
+
+-- where all places are empty, nothing is held
+pub emptied : (epoch count : ℕ) (places : List (Option Note)) → places ≡ replicate count None → (answer : Answer) → Holds (map (answer_in epoch) places) answer → ⊥
+emptied epoch count places is answer held =
+    let note = noted epoch places answer held in
+    let within : note.place < length places = slice_get_within places note.place (Some note.note) note.there in
+    let found : get_or places note.place (Some note.note) ≡ Some note.note = get_or_from_slice_get places note.place (Some note.note) (Some note.note) note.there in
+    let below : note.place < count = subst (λ (n : ℕ). note.place < n) (ap (λ (l : List (Option Note)). length l) is ∙ length-replicate count None) within in
+    let empty : get_or places note.place (Some note.note) ≡ None =
+    ap (λ (l : List (Option Note)). get_or l note.place (Some note.note)) is ∙ get_or-replicate count note.place None (Some note.note) below in
+    absurd cc
 
 -- ---- asking
 

@@ -7,8 +7,8 @@ ghost use Rattle.flows.specs.declared.memory.Answer.{Answer};
 ghost use Rattle.flows.specs.Memory.{AllRight, HoldsNone};
 ghost use Rattle.flows.specs.Staying.{NoneComes};
 
-/// What is remembered stays right as long as no pair comes, whatever else becomes of the pairs; and a
-/// memory that holds nothing is right.
+/// What is remembered stays right as long as no pair comes or comes back to life, and none gets other
+/// selectors, whatever else becomes of the pairs; and a memory that holds nothing is right.
 pub fn answers_stay_right()
     ensures stay { (policy : List Entry) (old new : PairMap) (memory : List (Option Answer))
         → NoneComes old new → AllRight policy old memory → AllRight policy new memory }

@@ -1,6 +1,6 @@
 //! A memory of what is done with flows.
-ghost use Rattle.std.specs.Prelude.{◌≡◌, ◌<◌, ℕ, IfSome, IsTrue, ◌↔◌, length, slice_get, Some};
-ghost use Rattle.flows.specs.Memory.{AllRight, HasItsPlaces, Holds, HoldsNone, HoldsNoMore, IsInPlace, Notes};
+ghost use Rattle.std.specs.Prelude.{◌≡◌, ◌<◌, IfSome, IsTrue, ◌↔◌, length, slice_get, Some};
+ghost use Rattle.flows.specs.Memory.{AllRight, HasItsPlaces, HoldsNone, HoldsNoMore, IsInPlace, Notes};
 ghost use Rattle.flows.specs.Memory.{StaysBut, StaysButAt};
 ghost use Rattle.flows.specs.declared.treatment.Treatment.{Treatment};
 ghost use Rattle.flows.specs.Treatments.{IsTreatment};
@@ -27,7 +27,7 @@ struct Note {
 }
 
 /// A memory of what is done with flows on their way out, of 4096 places. Each flow has one place, and takes
-/// it from the flow that had it before. Contracts see what each place holds.
+/// it from the flow that had it before. Contracts see what each place holds, and not how often it looked up.
 ///
 /// The places are made when it is asked for the first time, in about half a megabyte; where there is no
 /// memory for them, it looks up each time and remembers nothing. It never grows: whoever chooses flows can
@@ -36,6 +36,8 @@ struct Note {
 pub struct FlowMemory {
     epoch: u64,
     places: Vec<Option<Note>>,
+    // So often it has looked up.
+    look_ups: u64,
 }
 
 impl Model for FlowMemory {
@@ -58,6 +60,7 @@ impl FlowMemory {
         FlowMemory {
             epoch: 0,
             places: Vec::new(alloc),
+            look_ups: 0,
         }
     }
 
@@ -69,27 +72,36 @@ impl FlowMemory {
         let _ = &self.places;
     }
 
-    /// Forgets all, at the same cost however much it was.
+    /// Forgets all. Places that were made stay.
     pub fn forget(&mut self)
-        ensures { HoldsNone self.new }
+        ensures none { HoldsNone self.new }
+        ensures places { length self.new ≡ length self.old }
     {
         match self.epoch.checked_add(1) {
+            // At the same cost however much is held: no note is of this epoch.
             Some(epoch) => self.epoch = epoch,
-            None => self.places.clear(),
+            // After 2^64 times: what each place holds goes.
+            None => self.places.fill(None),
         }
     }
 
-    /// What is done with a flow: what was remembered, or else what [`look_up`] finds, which is remembered
-    /// from now on, in place of what was remembered of another flow with the same place. Takes memory where
-    /// there are no places yet, and does without where there is none.
+    /// How often it has looked up, a count that begins anew at 2^64. Whatever else it was asked it remembered.
+    pub fn look_ups(&self) -> u64 {
+        self.look_ups
+    }
+
+    /// What is done with a flow: what is held of it, where that counts, or else what [`look_up`] finds, which
+    /// is held from now on in place of what the flow's place held. What is held and counts is right before, as
+    /// it is of a memory that holds nothing, and afterwards. Takes memory where there are no places yet, and
+    /// does without where there is none.
     pub fn treatment(&mut self, table: &Table, policy: &Policy, flow: &Flow) -> Treatment
         requires { AllRight policy.now table.now.pairs self.old }
         ensures right { IsTreatment policy.now table.now.pairs flow.now result }
         ensures all_right { AllRight policy.now table.now.pairs self.new }
-        // Where there are places, it is remembered.
+        // Where there are places, it is held where the next look is.
         ensures held { 0 < length self.new
             → IsInPlace self.new (record { flow = flow.now; treatment = result }) }
-        // Places that were made stay, and what all others hold.
+        // Places that were made stay, and all but the flow's own hold what they held.
         ensures kept { 0 < length self.old → 0 < length self.new }
         ensures others { StaysBut flow.now self.old self.new }
     {
@@ -98,7 +110,7 @@ impl FlowMemory {
                 return treatment;
             }
         }
-        let treatment = look_up(table, policy, flow);
+        let treatment = self.looked_up(table, policy, flow);
         self.make_places();
         self.note(
             place_of(flow),
@@ -110,7 +122,7 @@ impl FlowMemory {
         treatment
     }
 
-    /// What is remembered of a flow, whether or not the pair that it names is still Live.
+    /// What is held of a flow at its place, whether or not the pair that it names is still Live.
     pub fn recalled(&self, flow: &Flow) -> Option<Treatment>
         ensures right { IfSome result
             (λ treatment. IsInPlace self.now (record { flow = flow.now; treatment = treatment })) }
@@ -127,7 +139,17 @@ impl FlowMemory {
         }
     }
 
-    // Makes the places, where there are none and there is memory for them.
+    // What a look-up finds, which is counted.
+    fn looked_up(&mut self, table: &Table, policy: &Policy, flow: &Flow) -> Treatment
+        ensures found { IsTreatment policy.now table.now.pairs flow.now result }
+        ensures same { self.new ≡ self.old }
+    {
+        self.look_ups = self.look_ups.wrapping_add(1);
+        look_up(table, policy, flow)
+    }
+
+    // Makes the places, where there are none and there is memory for them. That they are made is not promised,
+    // since memory may lack: the tests of `test_packet_calls` find it.
     fn make_places(&mut self)
         ensures no_more { HoldsNoMore self.old self.new }
         ensures made { HasItsPlaces self.new }

@@ -66,7 +66,7 @@ fn mix(hash: u64, address: Address) -> u64
     }
 }
 
-// Mixes a word into a hash: each of its bits changes about half of those above it.
+// Mixes a word into a hash: each bit of a factor changes about half of the product's bits above it.
 fn scatter(hash: u64, word: u64) -> u64
     ensures { result ≡ places.scatter hash word }
 {

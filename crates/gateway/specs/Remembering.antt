@@ -12,7 +12,7 @@ use Rattle.gateway.specs.Inputs.{Input, Ike, Esp, Outward, Inward, Start, Probe,
 abbrev pub ForgetsWith : Trace → List (Option Answer) → List (Option Answer) → Type 0
 ForgetsWith trace old new = MatchOption trace.child (new ≡ old) (λ _. HoldsNone new)
 
--- a packet on its way out is remembered, and one that came changes nothing
+-- the flow of a packet on its way out is remembered, a packet that came changes nothing, and an input of IKE makes all forgotten where a child was made
 abbrev pub RemembersAt : List Entry → PairMap → Input → Trace → List (Option Answer) → List (Option Answer) → Type 0
 RemembersAt policy pairs (Outward packet) trace old new = RemembersItsFlow policy pairs packet old new
 RemembersAt policy pairs (Esp packet) trace old new = new ≡ old

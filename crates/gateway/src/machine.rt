@@ -45,8 +45,8 @@ use std::marker::Model;
 use suite::{Agreement, KeyRecord, Proof, Sealer};
 
 /// A gateway: the IKE machine, the table of SA pairs (SAD), the policy (SPD), and the crypto provider. It
-/// also remembers what is done with flows. No contract speaks of that memory, since each answer is the one
-/// that a look-up would give.
+/// also remembers what is done with flows. No public contract speaks of that memory, since each answer is
+/// the one that a look-up would give.
 #[derive(Drop)]
 pub struct Gateway<C> {
     ike: Ike,
@@ -107,6 +107,12 @@ impl<C> Gateway<C> {
         ensures { self.new ≡ self.old }
     {
         self.lanes = packets;
+    }
+
+    /// How often it has looked up what is done with an outbound packet's flow, a count that begins anew at
+    /// 2^64. For all other packets it remembered that.
+    pub fn look_ups(&self) -> u64 {
+        self.flows.look_ups()
     }
 
     // From how many packets on lists have their ICVs computed side by side.
@@ -186,8 +192,9 @@ impl<C: Sealer + Agreement + Proof> Gateway<C> {
     /// that came takes none. A `Tick` at which nothing is due is never refused. What is done with outbound
     /// flows is remembered as far as there is memory.
     ///
-    /// A refused input changes nothing but the table's spare capacity. Given once more, or to another gateway
-    /// that holds the same, an input has the same output and leaves the same, unless memory runs out.
+    /// A refused input changes nothing but the table's spare capacity and what is remembered of flows. Given
+    /// once more, or to another gateway that holds the same, an input has the same output and leaves the same,
+    /// unless memory runs out.
     pub fn step<'a>(&mut self, alloc: Global, input: &Input<'a>) -> Output<'a>
         ensures stepped { Steps
             (meaning_of C.Sealer C.Agreement C.Proof self.old.caller)
@@ -330,7 +337,8 @@ impl<C: Sealer + Agreement + Proof> Gateway<C> {
 
     /// Takes an outbound packet as [`lay`](Gateway::lay) does, but writes the ESP packet at the beginning of a
     /// room of the caller's, which has 29 octets more than the packet. So those of a list stand one behind the
-    /// other, and take no memory. [`finish_behind`](Gateway::finish_behind) writes their ICVs.
+    /// other. [`finish_behind`](Gateway::finish_behind) writes their ICVs. Takes no memory but for the places of
+    /// the flows.
     ///
     /// Of how many octets the ESP packet is tells [`esp::packet_size`]; what stands behind it stays. Where the
     /// packet doesn't go protected, nothing is written.

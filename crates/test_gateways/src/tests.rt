@@ -11,3 +11,4 @@ mod of_further;
 mod of_ike;
 mod of_outputs;
 mod of_peers;
+mod remembered;

@@ -13,7 +13,7 @@ pub record RemembersItsFlow (policy : List Entry) (pairs : PairMap) (packet : Li
   pub unread : (fault : InnerFault) → IsInnerRefusal packet fault → new ≡ old
   -- where there are places, the flow is remembered, where it is looked for
   pub held : (flow : Flow) → IsFlowOf packet flow → 0 < length new → HoldsTreatmentOf policy pairs new flow
-  -- and nothing of a flow with another place is forgotten
+  -- and where there were places, all but its own hold what they held
   pub others : (flow : Flow) → IsFlowOf packet flow → StaysBut flow old new
   -- places that were made stay
   pub kept : 0 < length old → 0 < length new

@@ -4,8 +4,7 @@ ghost use Rattle.std.specs.Vec.{vec_capacity};
 ghost use Rattle.flows.specs.Memory.{AllRight};
 ghost use Rattle.flows.specs.Treatments.{action_of, IsCarriedSo};
 ghost use Rattle.policy.specs.declared.entry.Action.TheVariants.{Protect};
-ghost use Rattle.policy.specs.Packets.{IsFlowOf, IsInnerRefusal};
-ghost use Rattle.policy.specs.declared.fault.InnerFault.{InnerFault};
+ghost use Rattle.policy.specs.Packets.{IsFlowOf};
 ghost use Rattle.policy.specs.declared.flow.Flow.{Flow};
 ghost use Rattle.sadb.specs.Database.{IsOutbound};
 ghost use Rattle.traffic.specs.Behind.{DepartsBehind, DepartsIn, ProtectsBehind, ProtectsIn, SendsBehind, SendsIn};
@@ -144,8 +143,8 @@ pub fn lay<'a>(
 }
 
 /// Sends a packet as [`lay`] does, but appends its ESP packet to what stands in a buffer. So the packets of a
-/// list stand one behind the other, and take memory only where the buffer has to grow. Where the packet
-/// doesn't go protected, nothing is appended.
+/// list stand one behind the other, and take memory only where the buffer has to grow, and for the places of
+/// the flows. Where the packet doesn't go protected, nothing is appended.
 pub fn lay_behind<'a>(
     table: &mut Table,
     flows: &mut FlowMemory,
