@@ -44,82 +44,90 @@ fn recalled(memory: &FlowMemory, packet: &[u8]) -> Option<Treatment> {
     memory.recalled(&inner(packet).ok()?)
 }
 
-/// Sends a packet, and answers what is remembered of its flow then.
-fn sent(
+/// Sends a packet, and finds what is remembered of its flow then.
+fn sends(
     rt: &impl Abort,
     alloc: Global,
     table: &mut Table,
     memory: &mut FlowMemory,
     policy: &Policy,
     packet: &[u8],
-) -> Option<Treatment>
+    wanted: Treatment,
+)
     requires { AllRight policy.now table.old.pairs memory.old }
     ensures { AllRight policy.now table.new.pairs memory.new }
 {
     send_remembering(alloc, table, memory, policy, packet).expect(rt, "memory");
-    recalled(memory, packet)
+    same(rt, recalled(memory, packet), Some(wanted));
 }
 
-/// What is remembered of a flow where the near end does this with what goes between the networks.
-fn remembered_under(rt: &impl Abort, alloc: Global, action: Action) -> Option<Treatment> {
-    let mut ends = Ends::connected(alloc, Networks::ipv4(), 0).expect(rt, "memory");
+/// Sends packets of these four flows in turn by the first pair.
+fn sends_each(
+    rt: &impl Abort,
+    alloc: Global,
+    table: &mut Table,
+    memory: &mut FlowMemory,
+    policy: &Policy,
+    ends: [(u8, u8); 4],
+)
+    requires { AllRight policy.now table.old.pairs memory.old }
+    ensures { AllRight policy.now table.new.pairs memory.new }
+{
+    for (source, target) in ends {
+        let packet = packet_between(source, target);
+        sends(
+            rt,
+            alloc,
+            table,
+            memory,
+            policy,
+            &packet,
+            Treatment::Carried(1),
+        );
+    }
+}
+
+/// Finds what is remembered of a flow where this is done with it, and that nothing was before.
+fn remembers(rt: &impl Abort, alloc: Global, action: Action, wanted: Treatment) {
+    let mut table = table(rt, alloc);
     let policy = policy(alloc, Networks::ipv4(), action).expect(rt, "memory");
     let mut memory = no_memory(alloc);
     let packet = packet_between(1, 1);
     same(rt, recalled(&memory, &packet), None);
-    sent(rt, alloc, &mut ends.near, &mut memory, &policy, &packet)
+    sends(rt, alloc, &mut table, &mut memory, &policy, &packet, wanted);
+}
+
+/// The near end's table, with one pair.
+fn table(rt: &impl Abort, alloc: Global) -> Table {
+    Ends::connected(alloc, Networks::ipv4(), 0)
+        .expect(rt, "memory")
+        .near
 }
 
 #[test]
 fn what_was_done_is_recalled(rt: HostRuntime) {
     let alloc = rt.alloc();
-    same(
-        &rt,
-        remembered_under(&rt, alloc, Action::Protect),
-        Some(Treatment::Carried(1)),
-    );
-    same(
-        &rt,
-        remembered_under(&rt, alloc, Action::Bypass),
-        Some(Treatment::Bypassed),
-    );
-    same(
-        &rt,
-        remembered_under(&rt, alloc, Action::Discard),
-        Some(Treatment::Discarded),
-    );
+    remembers(&rt, alloc, Action::Protect, Treatment::Carried(1));
+    remembers(&rt, alloc, Action::Bypass, Treatment::Bypassed);
+    remembers(&rt, alloc, Action::Discard, Treatment::Discarded);
 }
 
 // The flows from 10.0.0.1 to 10.1.0.1 and from 10.0.0.39 to 10.1.0.155 have one place.
 #[test]
 fn the_last_flow_of_a_place_is_recalled(rt: HostRuntime) {
     let alloc = rt.alloc();
-    let mut ends = Ends::connected(alloc, Networks::ipv4(), 0).expect(&rt, "memory");
+    let mut table = table(&rt, alloc);
+    let policy = policy(alloc, Networks::ipv4(), Action::Protect).expect(&rt, "memory");
     let mut memory = no_memory(alloc);
-    let carried = Some(Treatment::Carried(1));
-    for (source, target) in [(1, 1), (1, 2), (2, 1)] {
-        let packet = packet_between(source, target);
-        let found = sent(
-            &rt,
-            alloc,
-            &mut ends.near,
-            &mut memory,
-            &ends.policy,
-            &packet,
-        );
-        same(&rt, found, carried);
-    }
-    same(&rt, recalled(&memory, &packet_between(1, 1)), carried);
-    let other = packet_between(39, 155);
-    let found = sent(
+    sends_each(
         &rt,
         alloc,
-        &mut ends.near,
+        &mut table,
         &mut memory,
-        &ends.policy,
-        &other,
+        &policy,
+        [(1, 1), (1, 2), (2, 1), (39, 155)],
     );
-    same(&rt, found, carried);
+    let carried = Some(Treatment::Carried(1));
     same(&rt, recalled(&memory, &packet_between(1, 1)), None);
     same(&rt, recalled(&memory, &packet_between(1, 2)), carried);
     same(&rt, recalled(&memory, &packet_between(2, 1)), carried);
@@ -129,49 +137,27 @@ fn the_last_flow_of_a_place_is_recalled(rt: HostRuntime) {
 #[test]
 fn what_is_remembered_is_not_looked_up(rt: HostRuntime) {
     let alloc = rt.alloc();
-    let mut ends = Ends::connected(alloc, Networks::ipv4(), 0).expect(&rt, "memory");
+    let mut table = table(&rt, alloc);
+    let policy = policy(alloc, Networks::ipv4(), Action::Protect).expect(&rt, "memory");
     let mut memory = no_memory(alloc);
-    let carried = Some(Treatment::Carried(1));
-    for _ in 0..3 {
-        let found = sent(
-            &rt,
-            alloc,
-            &mut ends.near,
-            &mut memory,
-            &ends.policy,
-            &packet_between(1, 1),
-        );
-        same(&rt, found, carried);
-    }
-    same(&rt, memory.look_ups(), 1);
-}
-
-#[test]
-fn nothing_is_recalled_that_was_forgotten(rt: HostRuntime) {
-    let alloc = rt.alloc();
-    let mut ends = Ends::connected(alloc, Networks::ipv4(), 0).expect(&rt, "memory");
-    let mut memory = no_memory(alloc);
-    let packet = packet_between(1, 1);
-    let carried = Some(Treatment::Carried(1));
-    let found = sent(
+    sends_each(
         &rt,
         alloc,
-        &mut ends.near,
+        &mut table,
         &mut memory,
-        &ends.policy,
-        &packet,
+        &policy,
+        [(1, 1), (1, 2), (1, 1), (1, 2)],
     );
-    same(&rt, found, carried);
-    forget(&mut memory);
-    same(&rt, recalled(&memory, &packet), None);
-    let again = sent(
-        &rt,
-        alloc,
-        &mut ends.near,
-        &mut memory,
-        &ends.policy,
-        &packet,
-    );
-    same(&rt, again, carried);
     same(&rt, memory.look_ups(), 2);
+    forget(&mut memory);
+    same(&rt, recalled(&memory, &packet_between(1, 1)), None);
+    sends_each(
+        &rt,
+        alloc,
+        &mut table,
+        &mut memory,
+        &policy,
+        [(1, 1), (1, 1), (1, 2), (1, 2)],
+    );
+    same(&rt, memory.look_ups(), 4);
 }
