@@ -4,9 +4,9 @@ prefix; the same lists of 64 packets by Outbound::seal_all and Inbound::open_all
 x86-64-v3.
 
 python3 tools/crossing.py PREFIX, where tools/library.sh laid the library out. Prints how many times as long the library takes: each turn takes
-all, and of each the fastest counts, since whatever else runs only slows. Beside esp's lists a packet's flow is looked up, its selectors are compared, and a record is written; beside run's only the record is. Ends with
-status 1 where a list of 1,400 octets takes over MOST times as long as one of esp's, one of any length over MOST_RUN times as long as run's, or crossing
-itself finds something wrong.
+all, and of each the fastest counts, a refused call too, since whatever else runs only slows. Beside esp's lists a packet's flow is looked up, its selectors are compared, and a record is written; beside run's only the record is. Ends with
+status 1 where a list of 1,400 octets takes over MOST times as long as one of esp's, one of any length over MOST_RUN times as long as run's, a refused
+call MOST_REFUSED nanoseconds, or crossing itself finds something wrong.
 """
 import pathlib
 import re
@@ -19,6 +19,9 @@ LENGTHS = (64, 576, 1400)
 WAYS = ("out", "in")
 MOST = 1.05
 MOST_RUN = 1.05
+MOST_REFUSED = 10
+ROUNDS = 200
+NO_LIMIT = 1_000
 TURNS = 15
 
 
@@ -42,15 +45,16 @@ def main():
         crossing = pathlib.Path(folder) / "crossing"
         include = library.parents[3] / "include"
         subprocess.run(["cc", "-O2", f"-I{include}", ROOT / "bindings/c/crossing.c", library, "-o", crossing], check=True)
-        fastest = {}
+        fastest, refused = {}, []
         for _ in range(TURNS):
-            ran = subprocess.run([crossing], capture_output=True, text=True)
+            ran = subprocess.run([crossing, str(ROUNDS), str(NO_LIMIT)], capture_output=True, text=True)
             said = ran.stdout
             if ran.returncode:
                 sys.exit(f"{said}{ran.stderr}crossing.py: crossing found what is said above")
+            refused.append(float(re.search(r"^a refused call takes (.*) ns$", said, re.M)[1]))
             for line in re.findall(r"^\| (\d+ .*) \|$", said, re.M):
                 length, _, _, out, came, *_ = map(float, line.split(" | "))
-                words = ("2", "200", "64", str(int(length)))
+                words = ("2", str(ROUNDS), "64", str(int(length)))
                 for way, task, time in (("out", "seal_all", out), ("in", "open_all", came)):
                     times = {"library": time, "esp": best(lists, task, *words), "run": best(runs, f"{way}_all", *words)}
                     for which, nanoseconds in times.items():
@@ -64,7 +68,8 @@ def main():
     slow += [f"{length} octets {way} beside run's" for length in LENGTHS for way in WAYS if found[length, way, "run"] > MOST_RUN]
     for which in slow:
         print(f"slower than it should be: a list of 64 packets of {which}", file=sys.stderr)
-    return 1 if slow else 0
+    print(f"a refused call takes {min(refused)} ns at least, in one of {TURNS} turns")
+    return 1 if slow or min(refused) >= MOST_REFUSED else 0
 
 
 sys.exit(main())
