@@ -1,6 +1,6 @@
 //! Scripts of `gw`: their lines and words, and the machines that play them. [`One`] plays the two ends of
 //! one ESP SA, [`Two`] two gateways and what goes between them; what a script may say is told in
-//! `docs/FORMATS.md`.
+//! `docs/SCRIPTS.md`.
 //!
 //! The first line names a script's kind ([`first_line`], [`Kind`]); a [`Player`] plays its [`directives`]
 //! one after the other, and answers what each one prints.
