@@ -1,14 +1,14 @@
 -- A message is sealed in one way: the head of its octets follows from the length of the body, and the body
 -- from that head.
-use Rattle.std.proofs.Common.{◌≡◌, ℕ, ◌+◌, List, [], ◌∷◌, ◌++◌, length, take, drop, sym, ap, subst, ◌∙◌, arith}
+use Rattle.std.proofs.Common.{◌≡◌, ℕ, ◌+◌, ◌*◌, List, [], ◌∷◌, ◌++◌, length, take, drop, sym, ap, subst, ◌∙◌, arith}
 use Rattle.std.proofs.lemmas.List.{length-append, append-nil, take_at, take-append-drop}
 use Rattle.byteorder.specs.Endian.{big_bytes}
 use Rattle.base.specs.Octets.{AreOctets}
 use Rattle.base.proofs.OctetLemmas.{octets_front}
-use Rattle.wire.specs.Messages.{SpellsPlainly}
+use Rattle.wire.specs.Messages.{bit, SpellsPlainly}
 use Rattle.wire.specs.Parts.{IsZero}
 use Rattle.wire.specs.Payloads.{SpellsPayloads}
-use Rattle.wire.specs.Writing.{flags_octet}
+use Rattle.wire.specs.declared.message.Flags.{Flags}
 use Rattle.wire.specs.declared.message.Header.{Header}
 use Rattle.wire.specs.declared.message.Message.{Message}
 use Rattle.wire.specs.declared.payload.Payload.{Payload}
@@ -36,6 +36,10 @@ payload_is first t body x s =
     ∙ ap (λ (o : ℕ). first ∷ o ∷ big_bytes 2 (4 + length p.body) ++ p.body) p.header.1
     ∙ ap (λ (within : List ℕ). first ∷ 0 ∷ big_bytes 2 (4 + length within) ++ within) p.inside in
     j.joined ∙ ap (λ (rest : List ℕ). j.front ++ rest) j.others.1 ∙ append-nil j.front ∙ front
+
+-- the flags as they are spelled with zeros
+abbrev flags_octet : Flags → ℕ
+flags_octet f = 8 * bit f.initiator + 16 * bit f.version + 32 * bit f.response
 
 flags_are : (h : Header) (first : ℕ) (body b : List ℕ) (s : SpellsPlainly (around h first body) b) → s.head.flags ≡ flags_octet h.flags
 flags_are h first body b s = omega (arith, s.head.has_flags.value, s.head.has_flags.free.0, s.head.has_flags.free.1)

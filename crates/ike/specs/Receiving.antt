@@ -1,9 +1,8 @@
 -- What a datagram does (RFC 7296 sections 1.2, 2.1, 2.6 and 3.1).
-use Rattle.std.specs.Prelude.{◌≡◌, ◌≢◌, ◌==◌, ◌&&◌, ◌<◌, ◌+◌, ◌++◌, ◌∷◌, ◌⊎◌, ℕ, Bool, true, false, not, Option, Some, None, List, [], Result, Ok, Err, length, nat_eq, slice_get, slice_set}
+use Rattle.std.specs.Prelude.{◌≡◌, ◌==◌, ◌&&◌, ◌<◌, ◌+◌, ◌++◌, ◌∷◌, ◌⊎◌, ℕ, Bool, true, false, not, Option, Some, None, List, [], Result, Ok, Err, length, nat_eq, slice_get, slice_set}
 use Rattle.std.specs.Cmp.Lexicographic.{pointwise}
 use Rattle.std.specs.List.{position}
 use Rattle.base.specs.Octets.{Octets}
-use Rattle.wire.specs.Fault.{fault_offset}
 use Rattle.wire.specs.Messages.{Spells, SpellsPlainly}
 use Rattle.wire.specs.Refusals.{IsFaultOf}
 use Rattle.wire.specs.Numbers.{IKE_SA_INIT}
@@ -215,9 +214,9 @@ pub record RefusesInitial (meaning : Meaning) (setup : Setup) (cookies : CookieS
   pub first : position (is_answered octets) old.associations ≡ None
   pub refused : RefusesOffer meaning setup cookies from message old reason
 
--- A datagram whose length, length field or version is wrong takes no memory.
+-- A datagram that is no message takes no memory: its own fault is told.
 abbrev pub CanWantMemory : Octets → Type 0
-CanWantMemory octets = (f : WireFault) → IsFaultOf octets f → fault_offset f ≢ None
+CanWantMemory octets = (f : WireFault) → ¬ IsFaultOf octets f
 
 -- a Child SA may be made of the message at the IKE SA at this place, and this is what making it may have no
 -- memory for

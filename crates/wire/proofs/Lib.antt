@@ -10,6 +10,8 @@ mod FieldBodies
 mod Forms
 mod PayloadReading
 mod ChainReading
+mod Passing
+mod Numbering
 mod MessageReading
 mod Promises
 mod Written

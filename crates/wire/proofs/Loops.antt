@@ -30,7 +30,7 @@ each_starts item rest = record { steps = length rest; enough = omega arith; read
   same (Some x) = refl
   same None = refl
 
-each_more : {A : Type 0} (item : List ℕ → Option (A × List ℕ)) (steps : ℕ) (rest : List ℕ) → 0 < length rest → length rest ≤ steps
+pub each_more : {A : Type 0} (item : List ℕ → Option (A × List ℕ)) (steps : ℕ) (rest : List ℕ) → 0 < length rest → length rest ≤ steps
     → (k : ℕ) × (steps ≡ suc k) × (each_of item steps rest ≡ (item rest >>= λ a. each_of item k a.1 >>= λ others. Some (a.0 ∷ others)))
 unfolding each_of
 each_more item zero rest some enough = absurd (omega arith)
@@ -50,7 +50,7 @@ each_fails item front rest total some read so_far =
     let next : each_of item so_far.steps rest ≡ None = m.2 ∙ ap (λ o. o >>= λ x. each_of item m.0 x.1 >>= λ others. Some (x.0 ∷ others)) read in
     sym so_far.reads ∙ ap (with_front front) next
 
-each_none : {A : Type 0} (item : List ℕ → Option (A × List ℕ)) (steps : ℕ) (rest : List ℕ) → length rest ≡ 0 → each_of item steps rest ≡ Some []
+pub each_none : {A : Type 0} (item : List ℕ → Option (A × List ℕ)) (steps : ℕ) (rest : List ℕ) → length rest ≡ 0 → each_of item steps rest ≡ Some []
 unfolding each_of
 each_none item zero rest e = rw e refl
 each_none item (suc k) rest e = rw e refl

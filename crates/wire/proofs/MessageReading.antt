@@ -1,6 +1,6 @@
 -- Messages: what is read is spelled, what is spelled is read, and the fault is the first one.
 use Rattle.std.proofs.Common.{◌≡◌, ℕ, zero, suc, ◌+◌, ◌-◌, ◌*◌, ◌/◌, ◌%◌, ◌^◌, ◌<◌, ◌≤◌, Bool, true, false, cond, eqb, ltb, List, ◌∷◌, ◌++◌, length, get_or, take, drop, slice_index, Some, Result, Ok, Err, refl, sym, ap, subst, ◌∙◌, append_assoc, inl, inr, arith}
-use Rattle.std.specs.Prelude.{ok_or, not}
+use Rattle.std.specs.Prelude.{ok_or, not, IsOk}
 use Rattle.std.proofs.lemmas.Bool.{eqb-true, eqb-false, ne_eqb, ltb-false, le-ltb, ltb-true, lt-ltb}
 use Rattle.std.proofs.lemmas.List.{length-append, length-drop, get_or-take, get_or-drop, drop-drop}
 use Rattle.byteorder.specs.Endian.{big_bytes, big_number}
@@ -377,6 +377,17 @@ pub version_from : (b : List ℕ) (h : Head) (left : List ℕ) → 28 ≤ length
 version_from b h left long short read same two =
     let is : (head_in b, drop 28 b) ≡ (h, left) = some_is (head_in b, drop 28 b) (h, left) (sym (head_is b long) ∙ read) in
     ((long, short), ap (λ (x : Head × List ℕ). x.0.length) is ∙ same, ap (λ (x : Head × List ℕ). x.0.major) is ∙ two)
+
+-- what is behind a right header is read where its chain is
+pub message_allowed : (b : List ℕ) (h : Head) (left : List ℕ) → 28 ≤ length b → length b ≤ 3000 → head_at b ≡ Some (h, left) → h.length ≡ length b → h.major ≡ 2 → IsOk (chain_at true (length b) (length left) h.first left) → IsOk (message_of b)
+message_allowed b h left long short read same two chain =
+    let v = version_from b h left long short read same two in
+    let is : (head_in b, drop 28 b) ≡ (h, left) = some_is (head_in b, drop 28 b) (h, left) (sym (head_is b long) ∙ read) in
+    let there : IsOk (chain_in b) = subst (λ (x : Head × List ℕ). IsOk (chain_at true (length b) (length x.1) x.0.first x.1)) (sym is) chain in
+    subst (λ (r : Result Message WireFault). IsOk r) (sym (message_is b v.0 ∙ headed_is b v)) (still (chain_in b) there) where
+      still : (r : Result (List Payload) WireFault) → IsOk r → IsOk (r >>> λ ps. Ok (made_of b ps))
+      still (Ok ps) ok = refl
+      still (Err f) ok = absurd cc
 
 pub first_from : (b : List ℕ) (h : Head) (left : List ℕ) → 28 ≤ length b → head_at b ≡ Some (h, left) → slice_index b 16 ≡ h.first
 first_from b h left long read = ap (λ (x : Head × List ℕ). x.0.first) (some_is (head_in b, drop 28 b) (h, left) (sym (head_is b long) ∙ read))

@@ -1,11 +1,10 @@
 -- From what the readers of the code give to what the public calls promise.
-use Rattle.std.proofs.Common.{◌≡◌, ◌≢◌, ℕ, ◌+◌, ◌-◌, ◌<◌, false, List, length, None, Result, Ok, Err, refl, sym, ap, subst, ◌∙◌, inl, inr, ◌⊎◌, arith}
-use Rattle.std.specs.Prelude.{IfOk, IfErr}
+use Rattle.std.proofs.Common.{◌≡◌, ◌≢◌, ℕ, ◌+◌, ◌-◌, ◌<◌, false, List, length, Result, Ok, Err, refl, sym, ap, subst, ◌∙◌, inl, inr, ◌⊎◌, arith}
+use Rattle.std.specs.Prelude.{IfOk, IfErr, IsOk}
 use Rattle.base.specs.Octets.{AreOctets}
 use Rattle.wire.specs.Payloads.{SpellsChain}
 use Rattle.wire.specs.Messages.{Spells}
-use Rattle.wire.specs.Fault.{fault_offset}
-use Rattle.wire.specs.Refusals.{IsFaultAt, IsFaultOf, IsChainFault, IsUnlessMemory, HasVersion}
+use Rattle.wire.specs.Refusals.{IsFaultAt, IsFaultOf, IsChainFault, IsUnlessMemory}
 use Rattle.wire.specs.Reading.{Answers, message_of, chain_at}
 use Rattle.wire.specs.declared.message.Message.{Message}
 use Rattle.wire.specs.declared.payload.Payload.{Payload}
@@ -14,7 +13,7 @@ use Rattle.wire.specs.declared.fault.WireFault.TheVariants as faults
 use Rattle.std.proofs.lemmas.List.{length-append}
 use Rattle.wire.proofs.Links.{err_is}
 use Rattle.wire.proofs.ChainReading.{chain_takes, chain_again, chain_fault, fault_again}
-use Rattle.wire.proofs.MessageReading.{message_takes, message_fault, fault_message}
+use Rattle.wire.proofs.MessageReading.{message_takes, message_fault}
 
 pub memory_or : (f : WireFault) → (f ≡ faults.Memory) ⊎ (f ≢ faults.Memory)
 memory_or faults.Short = inr (λ e. cc)
@@ -50,22 +49,19 @@ pub message_refused : (b : List ℕ) (r : Result Message WireFault) → AreOctet
 message_refused b (Ok m) fits a = tt
 message_refused b (Err f) fits a = λ other. message_fault b f fits (a other)
 
--- a fault without an offset lies before the payloads
-before_payloads : (b : List ℕ) (f : WireFault) → IsFaultOf b f → fault_offset f ≡ None → HasVersion b → ⊥
-before_payloads b faults.Short h none v = omega (arith, h, v.0.0)
-before_payloads b faults.BadLength h none v = h.1 v.1
-before_payloads b faults.BadVersion h none v = h.2 v.2
-before_payloads b (faults.BadChain at) h none v = cc
-before_payloads b (faults.BadProposal at) h none v = cc
-before_payloads b (faults.BadSelector at) h none v = cc
-before_payloads b (faults.BadNonce at) h none v = cc
-before_payloads b (faults.BadField at) h none v = cc
-before_payloads b faults.TooLong h none v = omega (arith, h, v.0.1)
-before_payloads b faults.Memory h none v = h
+refused_is_none : (Y : Type 0) (f : WireFault) → IsOk {T = Y} {E = WireFault} (Err f) → ⊥
+refused_is_none Y f ok = cc
 
-pub header_fault : (b : List ℕ) (r : Result Message WireFault) (f : WireFault) → AreOctets b → Answers (λ x. x) r (message_of b) → (r ≡ Err faults.Memory → HasVersion b) → IsFaultOf b f → fault_offset f ≡ None → r ≡ Err f
-header_fault b r f fits a reached h none =
-    elim (fault_unless (λ x. x) r (message_of b) f a (fault_message b f fits h)) [ inl is ↦ is | inr memory ↦ absurd (before_payloads b f h none (reached memory)) ]
+-- where memory is wanted for what is read alone, a fault is told
+pub fault_told : {Y : Type 0} (r read : Result Y WireFault) (f : WireFault) → Answers (λ x. x) r read → (r ≡ Err faults.Memory → IsOk read) → read ≡ Err f → r ≡ Err f
+fault_told {Y = Y} r read f a allowed e =
+    elim (fault_unless (λ x. x) r read f a e) [ inl is ↦ is | inr memory ↦ absurd (refused_is_none Y f (subst (λ (q : Result Y WireFault). IsOk q) e (allowed memory))) ]
+
+pub message_wanted : (b : List ℕ) (r : Result Message WireFault) → AreOctets b → (r ≡ Err faults.Memory → IsOk (message_of b)) → r ≡ Err faults.Memory → (m : Message) × Spells m b
+message_wanted b r fits allowed memory = go (message_of b) refl (allowed memory) where
+  go : (read : Result Message WireFault) → message_of b ≡ read → IsOk read → (m : Message) × Spells m b
+  go (Ok m) e ok = (m, message_takes b m fits e)
+  go (Err f) e ok = absurd cc
 
 -- ---- chains
 
@@ -94,7 +90,14 @@ chain_refused first b (Err f) small fits a = λ other.
     let at : length b - length c.rest ≡ 0 + length c.front = omega (arith, ap length c.joined, length-append c.front c.rest) in
     record { payloads = c.payloads; kind = c.named; front = c.front; rest = c.rest; joined = c.joined; leads = c.leads; here = subst (λ (n : ℕ). IsFaultAt false c.named c.rest n f) at c.here }
 
-pub chain_first_fault : (first : ℕ) (b : List ℕ) (r : Result (List Payload) WireFault) (f : WireFault) → first < 256 → AreOctets b → Answers (λ x. x) r (whole_chain first b) → IsChainFault false 0 first b f → IsUnlessMemory r (Err f)
-chain_first_fault first b r f small fits a c =
+pub chain_first_fault : (first : ℕ) (b : List ℕ) (r : Result (List Payload) WireFault) (f : WireFault) → first < 256 → AreOctets b → Answers (λ x. x) r (whole_chain first b)
+    → (r ≡ Err faults.Memory → IsOk (whole_chain first b)) → IsChainFault false 0 first b f → r ≡ Err f
+chain_first_fault first b r f small fits a allowed c =
     let at : 0 + length c.front ≡ length b - length c.rest = omega (arith, ap length c.joined, length-append c.front c.rest) in
-    fault_unless (λ x. x) r (whole_chain first b) f a (fault_again false (length b) (length b) first c.payloads c.kind c.front c.rest b f (omega arith) small fits c.joined c.leads (subst (λ (n : ℕ). IsFaultAt false c.kind c.rest n f) at c.here))
+    fault_told r (whole_chain first b) f a allowed (fault_again false (length b) (length b) first c.payloads c.kind c.front c.rest b f (omega arith) small fits c.joined c.leads (subst (λ (n : ℕ). IsFaultAt false c.kind c.rest n f) at c.here))
+
+pub chain_wanted : (first : ℕ) (b : List ℕ) (r : Result (List Payload) WireFault) → first < 256 → AreOctets b → (r ≡ Err faults.Memory → IsOk (whole_chain first b)) → r ≡ Err faults.Memory → (ps : List Payload) × SpellsChain first ps b
+chain_wanted first b r small fits allowed memory = go (whole_chain first b) refl (allowed memory) where
+  go : (read : Result (List Payload) WireFault) → whole_chain first b ≡ read → IsOk read → (ps : List Payload) × SpellsChain first ps b
+  go (Ok ps) e ok = (ps, chain_spelled first b ps small fits e)
+  go (Err f) e ok = absurd cc

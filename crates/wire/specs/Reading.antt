@@ -1,12 +1,13 @@
 -- What the readers of the code give, step by step: private contracts cite it, and lemmas lead from it to
 -- the grammar.
-use Rattle.std.specs.Prelude.{◌≡◌, ℕ, zero, suc, ◌+◌, ◌-◌, ◌*◌, ◌^◌, Bool, true, false, List, [], ◌∷◌, length, take, drop, Option, Some, None, Result, Ok, Err, nat_lt, nat_le, ◌==◌, ◌||◌, ◌&&◌, if◌then◌else◌, option_and_then, slice_index, ok_or, not, ◌≢◌, ◌/◌, ◌%◌}
+use Rattle.std.specs.Prelude.{◌≡◌, ℕ, zero, suc, ◌+◌, ◌-◌, ◌*◌, ◌^◌, Bool, true, false, List, [], ◌∷◌, length, take, drop, Option, Some, None, Result, Ok, Err, IsOk, nat_lt, nat_le, ◌==◌, ◌||◌, ◌&&◌, if◌then◌else◌, option_and_then, slice_index, ok_or, not, ◌≢◌, ◌/◌, ◌%◌}
 use Rattle.byteorder.specs.Endian.{big_number}
 use Rattle.base.specs.declared.address.Range.{Range}
 use Rattle.base.specs.declared.address.Range.TheVariants as range
 use Rattle.base.specs.declared.selector.Selector.{Selector}
 use Rattle.wire.specs.Numbers.{NO_PAYLOAD, SA_TYPE, KE_TYPE, ID_I_TYPE, ID_R_TYPE, CERTIFICATE_TYPE, CERTIFICATE_REQUEST_TYPE, AUTH_TYPE, NONCE_TYPE, NOTIFY_TYPE, DELETE_TYPE, VENDOR_ID_TYPE, TS_I_TYPE, TS_R_TYPE, SEALED_TYPE, CONFIGURATION_TYPE, EAP_TYPE, IKE_PROTOCOL, AH_PROTOCOL, ESP_PROTOCOL, IPV4_RANGE_TYPE, IPV6_RANGE_TYPE, MORE_PROPOSALS, MORE_TRANSFORMS, MAJOR_VERSION, HEADER_LENGTH, NONCE_LEAST, NONCE_LIMIT, SPI_LENGTH, IPV4_RANGE_LENGTH, IPV6_RANGE_LENGTH, MESSAGE_LIMIT, SELECTOR_LIMIT, KEY_EXCHANGE_LIMIT, IDENTITY_LIMIT, AUTHENTICATION_LIMIT}
 use Rattle.wire.specs.Refusals.{fault_of_type}
+use Rattle.wire.specs.declared.checking.Numbers.{Numbers}
 use Rattle.wire.specs.declared.reader.Unread.{Unread}
 use Rattle.wire.specs.declared.reader.Unread.TheVariants.{Malformed, Memory}
 use Rattle.wire.specs.declared.payload.Payload.{Payload}
@@ -39,6 +40,22 @@ abbrev pub Reads : {X Y : Type 0} → (X → Y) → List ℕ → Result X Unread
 Reads view left (Ok x) read = read ≡ Some (view x, left)
 Reads view left (Err Memory) read = Unit {0}
 Reads view left (Err Malformed) read = read ≡ None
+
+-- What a check finds of octets that it doesn't keep. It takes no memory: where it finds nothing, reading
+-- gives nothing.
+abbrev pub Finds : {X Y : Type 0} → (Y → X) → Result X Unread → Option Y → Type 0
+Finds {Y = Y} view (Ok x) read = (y : Y) × (read ≡ Some y) × (view y ≡ x)
+Finds view (Err e) read = read ≡ None
+
+-- the same of a check that tells nothing else
+abbrev pub Checks : {X Y : Type 0} → Result X Unread → Option Y → Type 0
+Checks {Y = Y} (Ok x) read = (y : Y) × (read ≡ Some y)
+Checks (Err e) read = read ≡ None
+
+-- the same of a reader, which has these octets left
+abbrev pub Leaves : {X Y : Type 0} → List ℕ → Result X Unread → Option (Y × List ℕ) → Type 0
+Leaves {Y = Y} left (Ok x) read = (y : Y) × (read ≡ Some (y, left))
+Leaves left (Err e) read = read ≡ None
 
 abbrev pub octets_at : ℕ → List ℕ → Option (List ℕ × List ℕ)
 octets_at count xs = if nat_lt (length xs) count then None else Some (take count xs, drop count xs)
@@ -112,6 +129,16 @@ proposal_of xs = do
 abbrev pub numbered_from : ℕ → List Proposal → Bool
 numbered_from n [] = true
 numbered_from n (p ∷ ps) = (p.number == n) && numbered_from (n + 1) ps
+
+-- the last number, 0 where there is none
+unfoldable pub last_number : List Proposal → ℕ
+last_number [] = 0
+last_number (p ∷ []) = p.number
+last_number (p ∷ q ∷ ps) = last_number (q ∷ ps)
+
+-- what a check keeps of the numbers of proposals
+abbrev pub numbers_of : List Proposal → Numbers
+numbers_of ps = record { count = length ps; last = last_number ps; in_order = numbered_from 1 ps }
 
 unfoldable pub are_numbered : List Proposal → Bool
 are_numbered [] = false
@@ -254,6 +281,16 @@ pub record Linked : Type 0 where
 
 abbrev pub link_of : Payload → ℕ → List ℕ → Linked
 link_of payload next left = record { payload = payload; next = next; left = left }
+
+-- what is passed over is what reading gives, and no memory is wanted
+abbrev pub Passes : List ℕ → Result ℕ WireFault → Result Linked WireFault → Type 0
+Passes left (Ok next) read = (payload : Payload) × (read ≡ Ok (link_of payload next left))
+Passes left (Err f) read = (read ≡ Err f) × (f ≢ faults.Memory)
+
+-- the fault of reading, where there is one
+abbrev pub Allows : {X Y : Type 0} → Result X WireFault → Result Y WireFault → Type 0
+Allows (Ok x) read = IsOk read
+Allows (Err f) read = (read ≡ Err f) × (f ≢ faults.Memory)
 
 -- an encrypted payload has to be the last, where there may be one; nothing follows it
 abbrev pub sealed_of : Bool → ℕ → ℕ → Piece → List ℕ → Result Linked WireFault

@@ -1,5 +1,5 @@
 //! Chains of payloads (RFC 7296 section 3.2).
-ghost use Rattle.std.specs.Prelude.{◌≡◌, ◌≢◌, List, IfOk, IfErr, false, length, Ok, Err};
+ghost use Rattle.std.specs.Prelude.{◌≡◌, ◌≢◌, List, IfOk, IfErr, IsOk, false, length, Ok, Err};
 ghost use Rattle.wire.specs.Numbers.{NO_PAYLOAD};
 ghost use Rattle.wire.specs.Payloads.{SpellsChain};
 ghost use Rattle.wire.specs.Reading.{Answers, chain_at};
@@ -8,6 +8,7 @@ ghost use Rattle.wire.specs.Refusals.{IsChainFault, IsUnlessMemory};
 ghost use Rattle.wire.specs.declared.payload.Payload.{Payload};
 ghost use Rattle.wire.specs.declared.fault.WireFault.{WireFault};
 
+use crate::checking::check_chain;
 use crate::fault::WireFault;
 use crate::numbers::{NO_PAYLOAD, SEALED_TYPE};
 use crate::payload::{Payload, read_payload, write_payload};
@@ -27,7 +28,11 @@ pub(crate) fn read_chain(
         (chain_at encrypted reader.entry.end (length reader.entry.rest.now) first reader.entry.rest.now) }
     // Memory is taken for payloads alone.
     ensures reached { result ≡ Err WireFault.Memory → first ≢ NO_PAYLOAD }
+    // And only where all of them are in the grammar.
+    ensures allowed { result ≡ Err WireFault.Memory → IsOk
+        (chain_at encrypted reader.entry.end (length reader.entry.rest.now) first reader.entry.rest.now) }
 {
+    check_chain(first, encrypted, reader)?;
     let mut payloads = Items::new(alloc);
     let mut next = first;
     while next != NO_PAYLOAD {
@@ -48,6 +53,8 @@ fn read_all(alloc: Global, first: u8, octets: &[u8]) -> Result<Items<Payload>, W
     ensures read { Answers (λ x. x) result
         (chain_at false (length octets.now) (length octets.now) first octets.now) }
     ensures reached { result ≡ Err WireFault.Memory → first ≢ NO_PAYLOAD }
+    ensures allowed { result ≡ Err WireFault.Memory → IsOk
+        (chain_at false (length octets.now) (length octets.now) first octets.now) }
 {
     read_chain(alloc, first, false, Reader::new(octets))
 }
@@ -57,7 +64,8 @@ fn read_all(alloc: Global, first: u8, octets: &[u8]) -> Result<Items<Payload>, W
 ///
 /// The first payload that the grammar does not allow decides: [`WireFault::BadChain`] to
 /// [`WireFault::BadField`] with its offset from the first octet. An encrypted payload is
-/// [`WireFault::BadChain`] at its offset.
+/// [`WireFault::BadChain`] at its offset. All this is found before memory is taken, so
+/// [`WireFault::Memory`] is told of payloads alone that are right.
 pub fn decode_chain(alloc: Global, first: u8, octets: &[u8]) -> Result<Items<Payload>, WireFault>
     // What is read is spelled by the octets.
     ensures found { IfOk result (λ ps. SpellsChain first ps octets.now) }
@@ -65,8 +73,9 @@ pub fn decode_chain(alloc: Global, first: u8, octets: &[u8]) -> Result<Items<Pay
     ensures only { (ps : List Payload) → SpellsChain first ps octets.now → IsUnlessMemory result (Ok ps) }
     // What is refused is spelled by none, and the fault is the first one.
     ensures refused { IfErr result (λ f. f ≢ WireFault.Memory → IsChainFault false 0 first octets.now f) }
-    ensures first_fault { (f : WireFault) → IsChainFault false 0 first octets.now f
-        → IsUnlessMemory result (Err f) }
+    ensures first_fault { (f : WireFault) → IsChainFault false 0 first octets.now f → result ≡ Err f }
+    // Memory is taken for what they spell, and for nothing else.
+    ensures wanted { result ≡ Err WireFault.Memory → (ps : List Payload) × SpellsChain first ps octets.now }
     // Where no payload is named, no memory is taken.
     ensures idle { first ≡ NO_PAYLOAD → result ≢ Err WireFault.Memory }
 {

@@ -11,7 +11,7 @@ use base::Items;
 use std::alloc::Global;
 
 // Whether SPIs of this protocol have this size and can be so many.
-fn is_sized(protocol: u8, size: u8, count: u16) -> bool
+pub(crate) fn is_sized(protocol: u8, size: u8, count: u16) -> bool
     ensures { result ≡ is_sized protocol size count }
 {
     match protocol {

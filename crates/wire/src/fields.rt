@@ -1,6 +1,6 @@
 //! The payloads of a few fields: key exchange, identification, authentication, nonce (RFC 7296 sections
 //! 3.4, 3.5, 3.8 and 3.9).
-ghost use Rattle.std.specs.Prelude.{◌≡◌};
+ghost use Rattle.std.specs.Prelude.{◌≡◌, IfErr};
 ghost use Rattle.wire.specs.Writing.{Writes, data_onto, ke_onto, typed_onto, nonce_onto};
 ghost use Rattle.wire.specs.Reading.{Gives, data_of, ke_of, typed_of, nonce_of};
 
@@ -10,50 +10,77 @@ use crate::writer::{Unwritten, push_octets, push_u16};
 use base::Items;
 use std::alloc::Global;
 
-fn read_data(alloc: Global, limit: usize, rest: Reader) -> Result<Items<u8>, Unread>
-    ensures { Gives (λ x. x) result (data_of limit rest.entry.rest.now) }
+// Data of an octet or more, up to a limit.
+fn data(limit: usize, rest: Reader<'_>) -> Result<&[u8], Unread>
+    ensures read { Gives (λ x. x.now) result (data_of limit rest.entry.rest.now) }
+    ensures free { IfErr result (λ e. e ≡ Unread.Malformed) }
 {
     if rest.is_empty() || rest.rest.len() > limit {
         return Err(Unread::Malformed);
     }
-    Ok(Items::from_slice(alloc, rest.rest)?)
+    Ok(rest.rest)
 }
 
 // The Diffie-Hellman group and the data.
 #[tactic(auto, unfolding(crate::specs::Reading::ke_of))]
-pub(crate) fn read_key_exchange(alloc: Global, mut body: Reader) -> Result<(u16, Items<u8>), Unread>
-    ensures { Gives (λ x. x) result (ke_of body.entry.rest.now) }
+pub(crate) fn key_exchange(mut body: Reader<'_>) -> Result<(u16, &[u8]), Unread>
+    ensures read { Gives (λ x. (x.0, x.1.now)) result (ke_of body.entry.rest.now) }
+    ensures free { IfErr result (λ e. e ≡ Unread.Malformed) }
 {
     let group = body.u16()?;
     body.octets(2)?;
-    let data = read_data(alloc, KEY_EXCHANGE_LIMIT, body)?;
+    let data = data(KEY_EXCHANGE_LIMIT, body)?;
     Ok((group, data))
+}
+
+// The same, with a copy of the data.
+pub(crate) fn read_key_exchange(alloc: Global, body: Reader) -> Result<(u16, Items<u8>), Unread>
+    ensures { Gives (λ x. x) result (ke_of body.entry.rest.now) }
+{
+    let (group, data) = key_exchange(body)?;
+    Ok((group, Items::from_slice(alloc, data)?))
 }
 
 // The type of an identity, or the method of an authentication, and the data.
 #[tactic(auto, unfolding(crate::specs::Reading::typed_of))]
-pub(crate) fn read_typed(
-    alloc: Global,
-    limit: usize,
-    mut body: Reader,
-) -> Result<(u8, Items<u8>), Unread>
-    ensures { Gives (λ x. x) result (typed_of limit body.entry.rest.now) }
+pub(crate) fn typed(limit: usize, mut body: Reader<'_>) -> Result<(u8, &[u8]), Unread>
+    ensures read { Gives (λ x. (x.0, x.1.now)) result (typed_of limit body.entry.rest.now) }
+    ensures free { IfErr result (λ e. e ≡ Unread.Malformed) }
 {
     let kind = body.u8()?;
     body.octets(3)?;
-    let data = read_data(alloc, limit, body)?;
+    let data = data(limit, body)?;
     Ok((kind, data))
 }
 
+// The same, with a copy of the data.
+pub(crate) fn read_typed(
+    alloc: Global,
+    limit: usize,
+    body: Reader,
+) -> Result<(u8, Items<u8>), Unread>
+    ensures { Gives (λ x. x) result (typed_of limit body.entry.rest.now) }
+{
+    let (kind, data) = typed(limit, body)?;
+    Ok((kind, Items::from_slice(alloc, data)?))
+}
+
 #[tactic(auto, unfolding(crate::specs::Reading::nonce_of))]
-pub(crate) fn read_nonce(alloc: Global, body: Reader) -> Result<Items<u8>, Unread>
-    ensures { Gives (λ x. x) result (nonce_of body.entry.rest.now) }
+pub(crate) fn nonce(body: Reader<'_>) -> Result<&[u8], Unread>
+    ensures read { Gives (λ x. x.now) result (nonce_of body.entry.rest.now) }
+    ensures free { IfErr result (λ e. e ≡ Unread.Malformed) }
 {
     if body.rest.len() >= NONCE_LEAST && body.rest.len() <= NONCE_LIMIT {
-        Ok(Items::from_slice(alloc, body.rest)?)
+        Ok(body.rest)
     } else {
         Err(Unread::Malformed)
     }
+}
+
+pub(crate) fn read_nonce(alloc: Global, body: Reader) -> Result<Items<u8>, Unread>
+    ensures { Gives (λ x. x) result (nonce_of body.entry.rest.now) }
+{
+    Ok(Items::from_slice(alloc, nonce(body)?)?)
 }
 
 fn write_data(limit: usize, content: &[u8], out: &mut Vec<u8>) -> Result<(), Unwritten>

@@ -43,15 +43,17 @@
 //!
 //! # How it is proved
 //!
-//! One reader serves all payloads, and one header of four octets (`IsPart`) serves payloads, proposals,
-//! transforms and selectors. The grammar is a relation by cases. `specs/Reading` and `specs/Writing` are
-//! the functions that the code follows, and only private contracts cite them. `proofs/` shows that what is
-//! read so is spelled, that nothing else is, and that the first fault is the one found. `encode_message`
-//! fills a buffer of its own, sets each length in place, and appends it to the caller's vector at the end.
-//! So a refusal never touches that vector.
+//! Octets are gone over twice: whether the grammar allows them is checked first, without memory, and then
+//! they are read. So want of memory is told of what is spelled alone. One reader serves all payloads, and
+//! one header of four octets (`IsPart`) serves payloads, proposals, transforms and selectors. The grammar
+//! is a relation by cases. `specs/Reading` and `specs/Writing` are the functions that the code follows, and
+//! only private contracts cite them. `proofs/` shows that what is read so is spelled, that nothing else is,
+//! and that the first fault is the one found. `encode_message` fills a buffer of its own, sets each length
+//! in place, and appends it to the caller's vector at the end. So a refusal never touches that vector.
 #![tactic(auto)]
 
 mod chain;
+mod checking;
 mod deletions;
 mod fault;
 mod fields;

@@ -1,12 +1,11 @@
 //! Messages and their header (RFC 7296 section 3.1).
-ghost use Rattle.std.specs.Prelude.{◌≡◌, ◌≢◌, ◌++◌, ◌<◌, ◌≤◌, List, length, slice_index, ℕ, IfOk, IfErr, OnOk, OnErr};
+ghost use Rattle.std.specs.Prelude.{◌≡◌, ◌≢◌, ◌++◌, ◌<◌, ◌≤◌, List, length, slice_index, ℕ, IfOk, IfErr, IsOk, OnOk, OnErr};
 ghost use Rattle.base.specs.Octets.{Appends};
-ghost use Rattle.wire.specs.Fault.{fault_offset};
 ghost use Rattle.wire.specs.Numbers.{HEADER_LENGTH, MESSAGE_LIMIT, NO_PAYLOAD};
 ghost use Rattle.wire.specs.Messages.{Spells, SpellsPlainly};
 ghost use Rattle.wire.specs.Reading.{Answers, Reads, flags_of, head_at, message_of};
 ghost use Rattle.wire.specs.Writing.{Writes, FitsHeader, flags_octet, header_onto, with_length, encoding_of};
-ghost use Rattle.wire.specs.Refusals.{HasVersion, IsFaultOf, IsEncodingFaultOf, IsUnlessMemory};
+ghost use Rattle.wire.specs.Refusals.{IsFaultOf, IsEncodingFaultOf, IsUnlessMemory};
 ghost use Rattle.wire.specs.declared.message.Message.{Message};
 ghost use Rattle.wire.specs.declared.fault.WireFault.{WireFault};
 
@@ -118,8 +117,8 @@ fn read_head(reader: &mut Reader) -> Result<Head, Unread>
 #[tactic(auto, unfolding(crate::specs::Reading::message_of, crate::specs::Reading::headed_of))]
 fn read_message(alloc: Global, octets: &[u8]) -> Result<Message, WireFault>
     ensures read { Answers (λ x. x) result (message_of octets.now) }
-    // Memory is taken for payloads alone.
-    ensures reached { result ≡ Err WireFault.Memory → HasVersion octets.now }
+    // Memory is taken for what is read alone.
+    ensures allowed { result ≡ Err WireFault.Memory → IsOk (message_of octets.now) }
     ensures idle { slice_index octets.now 16 ≡ NO_PAYLOAD → result ≢ Err WireFault.Memory }
 {
     if octets.len() < HEADER_LENGTH {
@@ -152,7 +151,7 @@ fn read_message(alloc: Global, octets: &[u8]) -> Result<Message, WireFault>
 /// a length field that is not the datagram's length [`WireFault::BadLength`], a major version that is not 2
 /// [`WireFault::BadVersion`]. Then the first payload that the grammar does not allow decides:
 /// [`WireFault::BadChain`] to [`WireFault::BadField`] with its offset. An encrypted payload has to be the
-/// last.
+/// last. All this is found before memory is taken, so [`WireFault::Memory`] is told of a message alone.
 pub fn decode_message(alloc: Global, octets: &[u8]) -> Result<Message, WireFault>
     // What is read is spelled by the octets.
     ensures found { IfOk result (λ m. Spells m octets.now) }
@@ -160,9 +159,9 @@ pub fn decode_message(alloc: Global, octets: &[u8]) -> Result<Message, WireFault
     ensures only { (m : Message) → Spells m octets.now → IsUnlessMemory result (Ok m) }
     // What is refused is spelled by none, and the fault is the first one.
     ensures refused { IfErr result (λ f. f ≢ WireFault.Memory → IsFaultOf octets.now f) }
-    ensures first_fault { (f : WireFault) → IsFaultOf octets.now f → IsUnlessMemory result (Err f) }
-    // What is wrong before the payloads is found without memory.
-    ensures header_fault { (f : WireFault) → IsFaultOf octets.now f → fault_offset f ≡ None → result ≡ Err f }
+    ensures first_fault { (f : WireFault) → IsFaultOf octets.now f → result ≡ Err f }
+    // Memory is taken for what they spell, and for nothing else.
+    ensures wanted { result ≡ Err WireFault.Memory → (m : Message) × Spells m octets.now }
     // Where the header names no payload, no memory is taken.
     ensures idle { slice_index octets.now 16 ≡ NO_PAYLOAD → result ≢ Err WireFault.Memory }
 {

@@ -1,5 +1,6 @@
 //! Notifications (RFC 7296 section 3.10).
-ghost use Rattle.std.specs.Prelude.{◌≡◌};
+ghost use Rattle.std.specs.Prelude.{◌≡◌, IfErr};
+ghost use Rattle.wire.specs.declared.payload.Payload.TheVariants.{Notify};
 ghost use Rattle.wire.specs.Reading.{Gives, notify_of};
 ghost use Rattle.wire.specs.Writing.{Writes, notify_onto};
 
@@ -9,15 +10,44 @@ use crate::writer::{Unwritten, push_octets, push_u16};
 use base::Items;
 use std::alloc::Global;
 
+// A notification whose octets are not copied.
+#[derive(Clone, Copy)]
+pub(crate) struct Notified<'a> {
+    pub(crate) protocol: u8,
+    pub(crate) spi: &'a [u8],
+    pub(crate) kind: u16,
+    pub(crate) data: &'a [u8],
+}
+
 #[tactic(auto, unfolding(crate::specs::Reading::notify_of))]
-pub(crate) fn read_notify(alloc: Global, mut body: Reader) -> Result<Payload, Unread>
-    ensures { Gives (λ x. x) result (notify_of body.entry.rest.now) }
+pub(crate) fn notify(mut body: Reader<'_>) -> Result<Notified<'_>, Unread>
+    ensures read { Gives (λ x. Notify x.protocol x.spi.now x.kind x.data.now) result (notify_of body.entry.rest.now) }
+    ensures free { IfErr result (λ e. e ≡ Unread.Malformed) }
 {
     let protocol = body.u8()?;
     let size = body.u8()?;
     let kind = body.u16()?;
-    let spi = Items::from_slice(alloc, body.octets(usize::from(size))?)?;
-    let data = Items::from_slice(alloc, body.rest)?;
+    let spi = body.octets(usize::from(size))?;
+    let data = body.rest;
+    Ok(Notified {
+        protocol,
+        spi,
+        kind,
+        data,
+    })
+}
+
+pub(crate) fn read_notify(alloc: Global, body: Reader) -> Result<Payload, Unread>
+    ensures { Gives (λ x. x) result (notify_of body.entry.rest.now) }
+{
+    let Notified {
+        protocol,
+        spi,
+        kind,
+        data,
+    } = notify(body)?;
+    let spi = Items::from_slice(alloc, spi)?;
+    let data = Items::from_slice(alloc, data)?;
     Ok(Payload::Notify {
         protocol,
         spi,

@@ -1,5 +1,5 @@
 //! Proposals of an SA payload (RFC 7296 section 3.3).
-ghost use Rattle.std.specs.Prelude.{◌≡◌, ◌==◌, length, true};
+ghost use Rattle.std.specs.Prelude.{◌≡◌, ◌==◌, length, true, IfErr};
 ghost use Rattle.wire.specs.Numbers.{MORE_PROPOSALS, MORE_TRANSFORMS};
 ghost use Rattle.wire.specs.Reading.{Gives, Reads, each_of, marked_of, attribute_at, goes_on, transform_of, proposal_of, proposals_of, are_numbered, numbered_from};
 ghost use Rattle.wire.specs.Writing.{Writes, each_onto, marked_from, marked_onto, attribute_onto, transform_onto, proposal_onto, proposals_onto};
@@ -38,7 +38,7 @@ pub enum Attribute {
 }
 
 // The top bit of an attribute's type, which tells the short form (section 3.3.5).
-const SHORT_FORM: u16 = 0x8000;
+pub(crate) const SHORT_FORM: u16 = 0x8000;
 
 #[tactic(auto, unfolding(crate::specs::Reading::attribute_at))]
 fn read_attribute(alloc: Global, list: &mut Reader) -> Result<Attribute, Unread>
@@ -83,8 +83,9 @@ fn read_transform(alloc: Global, mut inside: Reader) -> Result<Transform, Unread
 }
 
 // Whether another part follows one with this mark.
-fn goes_on(more: u8, mark: u8) -> Result<bool, Unread>
-    ensures { Gives (λ x. x) result (goes_on more mark) }
+pub(crate) fn goes_on(more: u8, mark: u8) -> Result<bool, Unread>
+    ensures read { Gives (λ x. x) result (goes_on more mark) }
+    ensures free { IfErr result (λ e. e ≡ Unread.Malformed) }
 {
     if mark == 0 {
         Ok(false)

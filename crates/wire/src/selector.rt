@@ -1,6 +1,6 @@
 //! Traffic selectors (RFC 7296 section 3.13.1).
 
-ghost use Rattle.std.specs.Prelude.{◌≡◌, length};
+ghost use Rattle.std.specs.Prelude.{◌≡◌, length, IfErr};
 ghost use Rattle.wire.specs.Reading.{Gives, Reads, each_of, is_counted, is_in_order, range_of, selector_at, selectors_of};
 ghost use Rattle.wire.specs.Selectors.{selector_type};
 ghost use Rattle.wire.specs.Writing.{Writes, each_onto, inside_onto, range_onto, selector_onto, selectors_onto};
@@ -16,7 +16,8 @@ use std::alloc::Global;
 // The range that a selector of this type has: both its ends, and nothing behind them.
 #[tactic(auto, unfolding(crate::specs::Reading::range_of, crate::specs::Reading::range_at))]
 fn read_range(kind: u8, mut ends: Reader) -> Result<Range, Unread>
-    ensures { Gives (λ x. x) result (range_of kind ends.entry.rest.now) }
+    ensures read { Gives (λ x. x) result (range_of kind ends.entry.rest.now) }
+    ensures free { IfErr result (λ e. e ≡ Unread.Malformed) }
 {
     let range = match kind {
         IPV4_RANGE_TYPE => Range::V4(ends.u32()?, ends.u32()?),
@@ -38,9 +39,10 @@ fn is_in_order(selector: &Selector) -> bool
 }
 
 #[tactic(auto, unfolding(crate::specs::Reading::selector_at))]
-fn read_selector(list: &mut Reader) -> Result<Selector, Unread>
+pub(crate) fn read_selector(list: &mut Reader) -> Result<Selector, Unread>
     ensures read { Reads (λ x. x) list.new.rest.now result (selector_at list.old.rest.now) }
     ensures end { list.new.end ≡ list.old.end }
+    ensures free { IfErr result (λ e. e ≡ Unread.Malformed) }
 {
     let part = list.part()?;
     let mut inside = part.inside;
@@ -71,7 +73,7 @@ fn read_list(alloc: Global, mut list: Reader) -> Result<Items<Selector>, Unread>
 }
 
 // Whether so many selectors of either family can have so many octets.
-fn is_counted(count: u8, length: usize) -> bool
+pub(crate) fn is_counted(count: u8, length: usize) -> bool
     ensures { result ≡ is_counted count length }
 {
     let count = usize::from(count);

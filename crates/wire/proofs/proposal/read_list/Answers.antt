@@ -14,12 +14,12 @@ returns-in_err-part c =
 pub returns-in_err-another : goal.returns-in_err-another
 returns-in_err-another c =
     let p = err_from_is_err_and c.from_residual-in_err-another.result c.from_residual-in_err-another.ensures.1 in
-    rw (p.1, p.2) (astray_exits c.in_err-another.field-0.0 (λ x. x) (λ x. x) 2 proposal_of c.loop-another.proposals c.loop-another.list.rest.now (marked_of 2 proposal_of (length c.args.list.rest.now) true c.args.list.rest.now) (piece_of c.in_ok-part.part.first c.in_ok-part.part.second c.in_ok-part.part.inside.rest.now) c.part.new.self.rest.now c.in_ok-part.ensures.read c.in_err-another.ensures (subst (λ (b : Bool). MarkedSoFar 2 proposal_of c.loop-another.proposals b c.loop-another.list.rest.now (marked_of 2 proposal_of (length c.args.list.rest.now) true c.args.list.rest.now)) c.loop-another-test.true c.loop-another.invariant))
+    rw (p.1, p.2) (astray_exits c.in_err-another.field-0.0 (λ x. x) (λ x. x) 2 proposal_of c.loop-another.proposals c.loop-another.list.rest.now (marked_of 2 proposal_of (length c.args.list.rest.now) true c.args.list.rest.now) (piece_of c.in_ok-part.part.first c.in_ok-part.part.second c.in_ok-part.part.inside.rest.now) c.part.new.self.rest.now c.in_ok-part.ensures.read c.in_err-another.ensures.read (subst (λ (b : Bool). MarkedSoFar 2 proposal_of c.loop-another.proposals b c.loop-another.list.rest.now (marked_of 2 proposal_of (length c.args.list.rest.now) true c.args.list.rest.now)) c.loop-another-test.true c.loop-another.invariant))
 
 pub returns-in_err-read_proposal : goal.returns-in_err-read_proposal
 returns-in_err-read_proposal c =
     let p = err_from_is_err_and c.from_residual-in_err-read_proposal.result c.from_residual-in_err-read_proposal.ensures.1 in
-    rw (p.1, p.2) (item_exits c.in_err-read_proposal.field-0.0 (λ x. x) (λ x. x) 2 proposal_of c.loop-another.proposals c.loop-another.list.rest.now (marked_of 2 proposal_of (length c.args.list.rest.now) true c.args.list.rest.now) (piece_of c.in_ok-part.part.first c.in_ok-part.part.second c.in_ok-part.part.inside.rest.now) c.part.new.self.rest.now c.in_ok-another.another c.in_ok-part.ensures.read c.in_ok-another.ensures c.in_err-read_proposal.ensures (subst (λ (b : Bool). MarkedSoFar 2 proposal_of c.loop-another.proposals b c.loop-another.list.rest.now (marked_of 2 proposal_of (length c.args.list.rest.now) true c.args.list.rest.now)) c.loop-another-test.true c.loop-another.invariant))
+    rw (p.1, p.2) (item_exits c.in_err-read_proposal.field-0.0 (λ x. x) (λ x. x) 2 proposal_of c.loop-another.proposals c.loop-another.list.rest.now (marked_of 2 proposal_of (length c.args.list.rest.now) true c.args.list.rest.now) (piece_of c.in_ok-part.part.first c.in_ok-part.part.second c.in_ok-part.part.inside.rest.now) c.part.new.self.rest.now c.in_ok-another.another c.in_ok-part.ensures.read c.in_ok-another.ensures.read c.in_err-read_proposal.ensures (subst (λ (b : Bool). MarkedSoFar 2 proposal_of c.loop-another.proposals b c.loop-another.list.rest.now (marked_of 2 proposal_of (length c.args.list.rest.now) true c.args.list.rest.now)) c.loop-another-test.true c.loop-another.invariant))
 
 pub loop-another-smaller : goal.loop-another-smaller
 loop-another-smaller c = part_shrinks c.loop-another.list.rest.now ((piece_of c.in_ok-part.part.first c.in_ok-part.part.second c.in_ok-part.part.inside.rest.now), c.part.new.self.rest.now) c.in_ok-part.ensures.read
@@ -27,7 +27,7 @@ loop-another-smaller c = part_shrinks c.loop-another.list.rest.now ((piece_of c.
 pub loop-another-preserved : goal.loop-another-preserved
 loop-another-preserved c =
     let less : length c.part.new.self.rest.now < length c.loop-another.list.rest.now = part_shrinks c.loop-another.list.rest.now ((piece_of c.in_ok-part.part.first c.in_ok-part.part.second c.in_ok-part.part.inside.rest.now), c.part.new.self.rest.now) c.in_ok-part.ensures.read in
-    rw c.in_ok-push.ensures.ok (marked_goes_on 2 proposal_of c.loop-another.proposals c.loop-another.list.rest.now (marked_of 2 proposal_of (length c.args.list.rest.now) true c.args.list.rest.now) (piece_of c.in_ok-part.part.first c.in_ok-part.part.second c.in_ok-part.part.inside.rest.now) c.part.new.self.rest.now c.in_ok-another.another c.in_ok-read_proposal.field-0 less c.in_ok-part.ensures.read c.in_ok-another.ensures c.in_ok-read_proposal.ensures (subst (λ (b : Bool). MarkedSoFar 2 proposal_of c.loop-another.proposals b c.loop-another.list.rest.now (marked_of 2 proposal_of (length c.args.list.rest.now) true c.args.list.rest.now)) c.loop-another-test.true c.loop-another.invariant))
+    rw c.in_ok-push.ensures.ok (marked_goes_on 2 proposal_of c.loop-another.proposals c.loop-another.list.rest.now (marked_of 2 proposal_of (length c.args.list.rest.now) true c.args.list.rest.now) (piece_of c.in_ok-part.part.first c.in_ok-part.part.second c.in_ok-part.part.inside.rest.now) c.part.new.self.rest.now c.in_ok-another.another c.in_ok-read_proposal.field-0 less c.in_ok-part.ensures.read c.in_ok-another.ensures.read c.in_ok-read_proposal.ensures (subst (λ (b : Bool). MarkedSoFar 2 proposal_of c.loop-another.proposals b c.loop-another.list.rest.now (marked_of 2 proposal_of (length c.args.list.rest.now) true c.args.list.rest.now)) c.loop-another-test.true c.loop-another.invariant))
 
 pub returns-then-is_empty : goal.returns-then-is_empty
 returns-then-is_empty c = marked_ends 2 proposal_of c.loop-another.proposals c.loop-another.list.rest.now (marked_of 2 proposal_of (length c.args.list.rest.now) true c.args.list.rest.now) (sym c.is_empty.ensures ∙ c.if-is_empty.true) (subst (λ (b : Bool). MarkedSoFar 2 proposal_of c.loop-another.proposals b c.loop-another.list.rest.now (marked_of 2 proposal_of (length c.args.list.rest.now) true c.args.list.rest.now)) c.loop-another-test.false c.loop-another.invariant)
