@@ -214,9 +214,9 @@ pub record RefusesInitial (meaning : Meaning) (setup : Setup) (cookies : CookieS
   pub first : position (is_answered octets) old.associations ≡ None
   pub refused : RefusesOffer meaning setup cookies from message old reason
 
--- A datagram that is no message takes no memory: its own fault is told.
+-- Memory may be wanted for a message alone: of octets that spell none their own fault is told.
 abbrev pub CanWantMemory : Octets → Type 0
-CanWantMemory octets = (f : WireFault) → ¬ IsFaultOf octets f
+CanWantMemory octets = (m : Message) × Spells m octets
 
 -- a Child SA may be made of the message at the IKE SA at this place, and this is what making it may have no
 -- memory for

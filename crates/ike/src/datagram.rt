@@ -5,7 +5,6 @@ ghost use Rattle.ike.specs.Receiving.{is_initial_request, is_sound_initial, send
 
 use sa_init::Sender;
 use std::marker::Model;
-use wire::laws::what_is_spelled_has_no_fault;
 use wire::numbers::IKE_SA_INIT;
 use wire::{Header, Message};
 
@@ -80,12 +79,11 @@ impl Datagram<'_> {
         header.flags.initiator && header.id == 0 && !(header.spi_i == 0)
     }
 
-    // Its octets spell the message, so no length and no version of it is at fault. Does nothing.
+    // Its octets spell the message, so memory may be wanted for it. Does nothing.
     pub fn is_whole(&self)
         ensures spelled { Spells self.now.message self.now.octets }
         ensures sound { CanWantMemory self.now.octets }
     {
-        what_is_spelled_has_no_fault();
         let _ = &self.octets;
     }
 }

@@ -115,8 +115,8 @@ impl Ike {
     ///
     /// A datagram is dropped ([`IkeOutput::Dropped`]) by E1 to E9 where it is no well-formed message, by
     /// E28 to E33, or by E34. It is refused (`Err`) by [`IkeFault::NumbersSpent`] or [`IkeFault::BadFresh`]
-    /// where it would make an IKE SA, and on allocation failure. A datagram whose length, length field or
-    /// version is wrong is never refused.
+    /// where it would make an IKE SA, and on allocation failure. A datagram that spells no message is never
+    /// refused.
     ///
     /// A command to ask for a Child SA is refused by the first of these:
     /// - [`IkeFault::Unprotected`] (E23);
@@ -132,10 +132,10 @@ impl Ike {
     /// by E36. A tick is refused on allocation failure alone, and only where a request is due to be
     /// retransmitted or an IKE SA to be closed.
     ///
-    /// What is refused changes nothing but the table's room. Beside what each input does (`stepped`), `laws`
-    /// says what every step keeps to: its moves, who is established, what the trace names and what goes in
-    /// clear, of what a child is made, what an answer may hold, that one IKE SA is changed but for a
-    /// tick, and that under load no datagram makes a half-open one without a right cookie.
+    /// What is refused changes nothing but the table's room. What each input does is in `stepped`, and what
+    /// every step keeps to in `laws`: its moves, who is established, what the trace names, and what goes in
+    /// clear. Also of what a child is made and what an answer may hold. One IKE SA is changed, but for a
+    /// tick. Under load no datagram makes a half-open IKE SA without a right cookie.
     ///
     /// Given once more, or to another machine with its table that hold the same, an input has the same result
     /// and leaves the same, unless memory runs out (`determined`, `refused_alike`).

@@ -63,6 +63,12 @@ message_wanted b r fits allowed memory = go (message_of b) refl (allowed memory)
   go (Ok m) e ok = (m, message_takes b m fits e)
   go (Err f) e ok = absurd cc
 
+pub message_or_fault : (b : List ℕ) → AreOctets b → ((m : Message) × Spells m b) ⊎ ((f : WireFault) × IsFaultOf b f)
+message_or_fault b fits = go (message_of b) refl where
+  go : (read : Result Message WireFault) → message_of b ≡ read → ((m : Message) × Spells m b) ⊎ ((f : WireFault) × IsFaultOf b f)
+  go (Ok m) e = inl (m, message_takes b m fits e)
+  go (Err f) e = inr (f, message_fault b f fits e)
+
 -- ---- chains
 
 abbrev whole_chain : ℕ → List ℕ → Result (List Payload) WireFault
@@ -83,18 +89,35 @@ chain_found first b (Err f) small fits a = tt
 pub chain_only : (first : ℕ) (b : List ℕ) (r : Result (List Payload) WireFault) (ps : List Payload) → Answers (λ x. x) r (whole_chain first b) → SpellsChain first ps b → IsUnlessMemory r (Ok ps)
 chain_only first b r ps a s = only_unless r (whole_chain first b) ps a (chain_read first b ps s)
 
-pub chain_refused : (first : ℕ) (b : List ℕ) (r : Result (List Payload) WireFault) → first < 256 → AreOctets b → Answers (λ x. x) r (whole_chain first b) → IfErr r (λ f. f ≢ faults.Memory → IsChainFault false 0 first b f)
-chain_refused first b (Ok ps) small fits a = tt
-chain_refused first b (Err f) small fits a = λ other.
-    let c = chain_fault false (length b) (length b) first b f (omega arith) small fits (a other) in
+chain_at_fault : (first : ℕ) (b : List ℕ) (f : WireFault) → first < 256 → AreOctets b → whole_chain first b ≡ Err f → IsChainFault false 0 first b f
+chain_at_fault first b f small fits e =
+    let c = chain_fault false (length b) (length b) first b f (omega arith) small fits e in
     let at : length b - length c.rest ≡ 0 + length c.front = omega (arith, ap length c.joined, length-append c.front c.rest) in
     record { payloads = c.payloads; kind = c.named; front = c.front; rest = c.rest; joined = c.joined; leads = c.leads; here = subst (λ (n : ℕ). IsFaultAt false c.named c.rest n f) at c.here }
 
+chain_reads_fault : (first : ℕ) (b : List ℕ) (f : WireFault) → first < 256 → AreOctets b → IsChainFault false 0 first b f → whole_chain first b ≡ Err f
+chain_reads_fault first b f small fits c =
+    let at : 0 + length c.front ≡ length b - length c.rest = omega (arith, ap length c.joined, length-append c.front c.rest) in
+    fault_again false (length b) (length b) first c.payloads c.kind c.front c.rest b f (omega arith) small fits c.joined c.leads (subst (λ (n : ℕ). IsFaultAt false c.kind c.rest n f) at c.here)
+
+pub chain_refused : (first : ℕ) (b : List ℕ) (r : Result (List Payload) WireFault) → first < 256 → AreOctets b → Answers (λ x. x) r (whole_chain first b) → IfErr r (λ f. f ≢ faults.Memory → IsChainFault false 0 first b f)
+chain_refused first b (Ok ps) small fits a = tt
+chain_refused first b (Err f) small fits a = λ other. chain_at_fault first b f small fits (a other)
+
 pub chain_first_fault : (first : ℕ) (b : List ℕ) (r : Result (List Payload) WireFault) (f : WireFault) → first < 256 → AreOctets b → Answers (λ x. x) r (whole_chain first b)
     → (r ≡ Err faults.Memory → IsOk (whole_chain first b)) → IsChainFault false 0 first b f → r ≡ Err f
-chain_first_fault first b r f small fits a allowed c =
-    let at : 0 + length c.front ≡ length b - length c.rest = omega (arith, ap length c.joined, length-append c.front c.rest) in
-    fault_told r (whole_chain first b) f a allowed (fault_again false (length b) (length b) first c.payloads c.kind c.front c.rest b f (omega arith) small fits c.joined c.leads (subst (λ (n : ℕ). IsFaultAt false c.kind c.rest n f) at c.here))
+chain_first_fault first b r f small fits a allowed c = fault_told r (whole_chain first b) f a allowed (chain_reads_fault first b f small fits c)
+
+pub chain_or_fault : (first : ℕ) (b : List ℕ) → first < 256 → AreOctets b → ((ps : List Payload) × SpellsChain first ps b) ⊎ ((f : WireFault) × IsChainFault false 0 first b f)
+chain_or_fault first b small fits = go (whole_chain first b) refl where
+  go : (read : Result (List Payload) WireFault) → whole_chain first b ≡ read → ((ps : List Payload) × SpellsChain first ps b) ⊎ ((f : WireFault) × IsChainFault false 0 first b f)
+  go (Ok ps) e = inl (ps, chain_spelled first b ps small fits e)
+  go (Err f) e = inr (f, chain_at_fault first b f small fits e)
+
+pub chain_not_both : (first : ℕ) (ps : List Payload) (b : List ℕ) (f : WireFault) → first < 256 → SpellsChain first ps b → IsChainFault false 0 first b f → ⊥
+chain_not_both first ps b f small s c = clash (sym (chain_read first b ps s) ∙ chain_reads_fault first b f small s.octets c) where
+  clash : Ok ps ≡ Err f → ⊥
+  clash q = cc
 
 pub chain_wanted : (first : ℕ) (b : List ℕ) (r : Result (List Payload) WireFault) → first < 256 → AreOctets b → (r ≡ Err faults.Memory → IsOk (whole_chain first b)) → r ≡ Err faults.Memory → (ps : List Payload) × SpellsChain first ps b
 chain_wanted first b r small fits allowed memory = go (whole_chain first b) refl (allowed memory) where

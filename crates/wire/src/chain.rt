@@ -26,9 +26,9 @@ pub(crate) fn read_chain(
 ) -> Result<Items<Payload>, WireFault>
     ensures read { Answers (λ x. x) result
         (chain_at encrypted reader.entry.end (length reader.entry.rest.now) first reader.entry.rest.now) }
-    // Memory is taken for payloads alone.
+    // Memory is wanted only where a payload is named.
     ensures reached { result ≡ Err WireFault.Memory → first ≢ NO_PAYLOAD }
-    // And only where all of them are in the grammar.
+    // And only where the grammar allows all of them.
     ensures allowed { result ≡ Err WireFault.Memory → IsOk
         (chain_at encrypted reader.entry.end (length reader.entry.rest.now) first reader.entry.rest.now) }
 {
@@ -59,13 +59,14 @@ fn read_all(alloc: Global, first: u8, octets: &[u8]) -> Result<Items<Payload>, W
     read_chain(alloc, first, false, Reader::new(octets))
 }
 
-/// The payloads that the octets spell, all of them, of which the first has the type `first` (0 for none).
-/// There is no encrypted payload among them.
+/// The payloads that the octets spell (RFC 7296 section 3.2), all of them, of which the first has the type
+/// `first` (0 for none). There is no encrypted payload among them. The octets may be of any number, so
+/// [`WireFault::TooLong`] never comes.
 ///
 /// The first payload that the grammar does not allow decides: [`WireFault::BadChain`] to
 /// [`WireFault::BadField`] with its offset from the first octet. An encrypted payload is
-/// [`WireFault::BadChain`] at its offset. All this is found before memory is taken, so
-/// [`WireFault::Memory`] is told of payloads alone that are right.
+/// [`WireFault::BadChain`] at its offset. A fault is told however little memory there is:
+/// [`WireFault::Memory`] comes only where the octets spell payloads.
 pub fn decode_chain(alloc: Global, first: u8, octets: &[u8]) -> Result<Items<Payload>, WireFault>
     // What is read is spelled by the octets.
     ensures found { IfOk result (λ ps. SpellsChain first ps octets.now) }
@@ -74,9 +75,9 @@ pub fn decode_chain(alloc: Global, first: u8, octets: &[u8]) -> Result<Items<Pay
     // What is refused is spelled by none, and the fault is the first one.
     ensures refused { IfErr result (λ f. f ≢ WireFault.Memory → IsChainFault false 0 first octets.now f) }
     ensures first_fault { (f : WireFault) → IsChainFault false 0 first octets.now f → result ≡ Err f }
-    // Memory is taken for what they spell, and for nothing else.
+    // Memory is wanted for what they spell, and for nothing else.
     ensures wanted { result ≡ Err WireFault.Memory → (ps : List Payload) × SpellsChain first ps octets.now }
-    // Where no payload is named, no memory is taken.
+    // Where no payload is named, none is wanted.
     ensures idle { first ≡ NO_PAYLOAD → result ≢ Err WireFault.Memory }
 {
     read_all(alloc, first, octets)

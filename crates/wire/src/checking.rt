@@ -86,7 +86,7 @@ fn check_proposal(mut inside: Reader) -> Result<u8, Unread>
 }
 
 // What is asked of the numbers of some proposals: how many there are, the last one, and whether they are
-// 1, 2, 3, ..
+// 1, 2, 3 and so on.
 #[derive(Clone, Copy)]
 struct Numbers {
     count: usize,
@@ -109,7 +109,7 @@ fn with_number(numbers: Numbers, number: u8) -> Numbers
     }
 }
 
-// Whether a lone proposal has a number from 1, and more have 1, 2, 3, ..
+// Whether a lone proposal has a number above 0, and several have the numbers 1, 2, 3 and so on.
 fn are_numbered(numbers: Numbers) -> bool
     ensures { (proposals : List Proposal) → numbers_of proposals ≡ numbers → result ≡ are_numbered proposals }
 {
@@ -196,7 +196,7 @@ fn check_delete(mut body: Reader) -> Result<(), Unread>
     }
 }
 
-// The inside of a payload that is not encrypted. Of one that is not looked into any octets will do.
+// The inside of a payload that is not encrypted. A skipped or an unknown one may hold any octets.
 #[tactic(auto, unfolding(crate::specs::Reading::body_of))]
 fn check_body(form: Form, part: Part) -> Result<(), Unread>
     ensures { (kind : ℕ) → Checks result (body_of form kind part.entry.second part.entry.inside.rest.now) }

@@ -14,7 +14,7 @@ use thiserror::Error;
 /// [`decode_chain`](crate::decode_chain), to the first octet of the payload that is at fault.
 #[derive(Clone, Copy, Debug, PartialEq, Eq, Error)]
 pub enum WireFault {
-    /// Fewer than 28 octets.
+    /// Fewer than 28 octets, which the header has (RFC 7296 section 3.1).
     #[error("E1: fewer octets than a header has")]
     Short,
     /// The length field is not the datagram's length.
@@ -25,22 +25,28 @@ pub enum WireFault {
     BadVersion,
     /// In decoding: too few octets are left for a payload's header or for the length that it tells, or that
     /// length doesn't cover the header's own 4 octets. The octets end although a next payload is announced,
-    /// or go on although none is. Another payload follows an encrypted one (in
-    /// [`decode_chain`](crate::decode_chain): one is there at all). In encoding: an encrypted payload is not
-    /// the last, a skipped, unknown or encrypted one is too long for its length field, or an unknown one has
-    /// the type 0 or a type with a form of its own.
+    /// or go on although none is (RFC 7296 section 3.2). Octets follow an encrypted payload (section 3.14);
+    /// [`decode_chain`](crate::decode_chain) allows no encrypted payload at all. In encoding: an encrypted
+    /// payload is not the last, a skipped, unknown or encrypted one is too long for its length field, or an
+    /// unknown one has the type 0 or a type with a form of its own.
     #[error("E4 at {offset}: the chain of payloads is broken")]
     BadChain { offset: usize },
-    /// The inside of an SA payload.
+    /// The inside of an SA payload (RFC 7296 section 3.3): a length or a count is wrong, no proposal is there,
+    /// a lone one has the number 0, or several have other numbers than 1, 2, 3 and so on.
     #[error("E5 at {offset}: a proposal is malformed")]
     BadProposal { offset: usize },
-    /// The inside of a payload of traffic selectors.
+    /// The inside of a payload of traffic selectors (RFC 7296 section 3.13): a length or the count is wrong,
+    /// there are none or more than 16, one is no range of IPv4 or IPv6 addresses, or a start is above its
+    /// end. So the ports OPAQUE (65535 to 0) are refused.
     #[error("E6 at {offset}: a traffic selector is malformed")]
     BadSelector { offset: usize },
-    /// A nonce of fewer than 16 or more than 256 octets.
+    /// A nonce of fewer than 16 or more than 256 octets (RFC 7296 section 3.9).
     #[error("E7 at {offset}: the nonce has a wrong length")]
     BadNonce { offset: usize },
-    /// The inside of a key exchange, identification, authentication, notification or deletion.
+    /// The inside of a key exchange, identification, authentication, notification or deletion (RFC 7296
+    /// sections 3.4, 3.5, 3.8, 3.10 and 3.11): it is too short for its fields. Or the data of one of the
+    /// first three are empty, or above 1024 octets (of an identification 256). Or the count and size of a
+    /// deletion's SPIs don't suit its protocol and length.
     #[error("E8 at {offset}: a field is malformed")]
     BadField { offset: usize },
     /// More than 3000 octets.

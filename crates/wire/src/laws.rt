@@ -1,7 +1,7 @@
 //! Facts about the definitions, each the contract of a function that does nothing: what octets spell and
-//! what is wrong with them is determined, sizes are lengths, and a message whose fields and size fit has a
-//! spelling.
-ghost use Rattle.std.specs.Prelude.{◌≡◌, ◌≤◌, ◌+◌, ℕ, List, length, false};
+//! what is wrong with them is determined, and they have one of both; sizes are lengths, and a message whose
+//! fields and size fit has a spelling.
+ghost use Rattle.std.specs.Prelude.{◌≡◌, ◌≤◌, ◌+◌, ◌⊎◌, ℕ, List, length, false};
 ghost use Rattle.std.specs.List.{AllByRecursion, sum_by};
 ghost use Rattle.base.specs.Octets.{IsOctet, AreOctets, Octets};
 ghost use Rattle.wire.specs.Parts.{IsZero};
@@ -71,6 +71,16 @@ pub fn plain_spellings_are_determined()
     ensures message { (m : Message) (a b : Octets) → SpellsPlainly m a → SpellsPlainly m b → a ≡ b }
     ensures payloads { (first other : ℕ) (ps : List Payload) (a b : Octets)
         → SpellsPayloads IsZero first ps a → SpellsPayloads IsZero other ps b → (first ≡ other) × (a ≡ b) }
+{}
+
+/// Octets that spell no message have a fault, and so have those that spell no chain of payloads. A chain that
+/// is spelled has none.
+pub fn what_has_no_fault_is_spelled()
+    ensures message { (b : Octets) → AreOctets b → ((m : Message) × Spells m b) ⊎ ((f : WireFault) × IsFaultOf b f) }
+    ensures chain { (first : ℕ) (b : Octets) → IsOctet first → AreOctets b
+        → ((ps : List Payload) × SpellsChain first ps b) ⊎ ((f : WireFault) × IsChainFault false 0 first b f) }
+    ensures spelled_chain { (first : ℕ) (ps : List Payload) (b : Octets) (f : WireFault) → IsOctet first
+        → SpellsChain first ps b → ¬ IsChainFault false 0 first b f }
 {}
 
 /// A datagram that spells a message has no fault.

@@ -3,11 +3,11 @@
 //! [`decode_message`] reads a datagram, [`decode_chain`] the payloads inside an encrypted one, and
 //! [`encode_message`] writes a message. What is read is what the octets spell, whatever stands in reserved
 //! octets and bits; what is written has zeros there, and is read as the same message again. A refusal is a
-//! [`WireFault`] with the offset of the first payload at fault; none of the three changes anything when it
-//! refuses.
+//! [`WireFault`]: where a payload is at fault, it has the offset of the first such payload. None of the three
+//! changes anything when it refuses.
 //!
 //! The grammar stands in `specs/`, apart from reader and writer: `Messages` (section 3.1), `Payloads` (3.2,
-//! 3.14), `Proposals` (3.3), `Fields` (3.4, 3.5, 3.8 to 3.11), `Selectors` (3.13), what is refused in
+//! 3.14), `Proposals` (3.3), `Fields` (3.4, 3.5, 3.8 to 3.11) and `Selectors` (3.13). What is refused is in
 //! `Refusals`, how long payloads are in `Sizes`, and the numbers that all of them cite in `Numbers`. What
 //! follows from these alone is in [`laws`].
 //!
@@ -44,7 +44,7 @@
 //! # How it is proved
 //!
 //! Octets are gone over twice: whether the grammar allows them is checked first, without memory, and then
-//! they are read. So want of memory is told of what is spelled alone. One reader serves all payloads, and
+//! they are read. So want of memory is told only where octets spell something. One reader serves all payloads, and
 //! one header of four octets (`IsPart`) serves payloads, proposals, transforms and selectors. The grammar
 //! is a relation by cases. `specs/Reading` and `specs/Writing` are the functions that the code follows, and
 //! only private contracts cite them. `proofs/` shows that what is read so is spelled, that nothing else is,

@@ -117,7 +117,7 @@ fn read_head(reader: &mut Reader) -> Result<Head, Unread>
 #[tactic(auto, unfolding(crate::specs::Reading::message_of, crate::specs::Reading::headed_of))]
 fn read_message(alloc: Global, octets: &[u8]) -> Result<Message, WireFault>
     ensures read { Answers (λ x. x) result (message_of octets.now) }
-    // Memory is taken for what is read alone.
+    // Memory is wanted only where the octets are in the grammar.
     ensures allowed { result ≡ Err WireFault.Memory → IsOk (message_of octets.now) }
     ensures idle { slice_index octets.now 16 ≡ NO_PAYLOAD → result ≢ Err WireFault.Memory }
 {
@@ -145,13 +145,14 @@ fn read_message(alloc: Global, octets: &[u8]) -> Result<Message, WireFault>
     })
 }
 
-/// The message that a datagram spells.
+/// The message that a datagram spells (RFC 7296 sections 3.1 and 3.2).
 ///
 /// Refused in this order: fewer than 28 octets [`WireFault::Short`], more than 3000 [`WireFault::TooLong`],
 /// a length field that is not the datagram's length [`WireFault::BadLength`], a major version that is not 2
 /// [`WireFault::BadVersion`]. Then the first payload that the grammar does not allow decides:
 /// [`WireFault::BadChain`] to [`WireFault::BadField`] with its offset. An encrypted payload has to be the
-/// last. All this is found before memory is taken, so [`WireFault::Memory`] is told of a message alone.
+/// last. A fault is told however little memory there is: [`WireFault::Memory`] comes only where the octets
+/// spell a message.
 pub fn decode_message(alloc: Global, octets: &[u8]) -> Result<Message, WireFault>
     // What is read is spelled by the octets.
     ensures found { IfOk result (λ m. Spells m octets.now) }
@@ -160,9 +161,9 @@ pub fn decode_message(alloc: Global, octets: &[u8]) -> Result<Message, WireFault
     // What is refused is spelled by none, and the fault is the first one.
     ensures refused { IfErr result (λ f. f ≢ WireFault.Memory → IsFaultOf octets.now f) }
     ensures first_fault { (f : WireFault) → IsFaultOf octets.now f → result ≡ Err f }
-    // Memory is taken for what they spell, and for nothing else.
+    // Memory is wanted for what they spell, and for nothing else.
     ensures wanted { result ≡ Err WireFault.Memory → (m : Message) × Spells m octets.now }
-    // Where the header names no payload, no memory is taken.
+    // Where the header names no payload, none is wanted.
     ensures idle { slice_index octets.now 16 ≡ NO_PAYLOAD → result ≢ Err WireFault.Memory }
 {
     read_message(alloc, octets)

@@ -83,7 +83,7 @@ pub(crate) fn is_counted(count: u8, length: usize) -> bool
         && length <= IPV6_RANGE_LENGTH * count
 }
 
-// The inside of a payload of traffic selectors. What its count rules out is refused before memory is taken.
+// The inside of a payload of traffic selectors. What its count rules out is not read.
 #[tactic(auto, unfolding(crate::specs::Reading::selectors_of))]
 pub(crate) fn read_selectors(alloc: Global, mut body: Reader) -> Result<Items<Selector>, Unread>
     ensures { Gives (λ x. x) result (selectors_of body.entry.rest.now) }

@@ -88,8 +88,8 @@ fn body_size(payload: &Payload) -> usize
 }
 
 impl Payload {
-    /// How many octets the payload has with its header, or the greatest `usize` where that is less. What
-    /// was decoded has at most 2972.
+    /// How many octets the payload has with its header, or the greatest `usize` where that is less. In a
+    /// decoded message it has at most 2972.
     pub fn size(&self) -> usize
         ensures { result ≡ usize_of (size_of self.now) }
     {
