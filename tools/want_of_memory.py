@@ -5,8 +5,8 @@ the step was refused that wanted it, E10, E20, E24 or E27, of which each has to 
 From anywhere, after (cd crates/tool_memory && rt run): python3 tools/want_of_memory.py. The C library's allocator is put aside by a small
 library of C, which is built with cc. Alone, the program has to find that all is as with memory, or that memory was wanted for its own
 lists (status 3). With all after it refused, it can only find that nothing was changed by what was refused (status 3). Then a thousand ESP
-packets come while all memory is refused, and a list of them that has no room for its outputs. It is no part of the gate. Ends with status 1
-where the program says anything else, or doesn't end by itself.
+packets come while all memory is refused, a list of them that has no room for its outputs, and datagrams at fault by E1 to E9. It is no part
+of the gate. Ends with status 1 where the program says anything else, or doesn't end by itself.
 """
 import collections
 import pathlib
@@ -91,7 +91,11 @@ TEXTS = {
 }
 # The mark of crates/tool_memory/src/thousand.rt, and what is said of it.
 MARK = "7777777"
-THOUSAND = ("without memory 1000 of 1000 packets went up; of a list of them: E38: no room after 0 inputs", 0)
+THOUSAND = (
+    "without memory 1000 of 1000 packets went up; of a list of them: E38: no room after 0 inputs; "
+    "9 of 9 datagrams that are no message told why",
+    0,
+)
 
 
 def run(library, *words, **environment):

@@ -8,4 +8,3 @@ mod TrailLemmas
 mod SameLemmas
 mod HistoryLemmas
 mod PromiseLemmas
-mod WorkedLemmas

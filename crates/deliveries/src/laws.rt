@@ -10,7 +10,6 @@ ghost use Rattle.traffic.specs.Sending.{Sends};
 ghost use Rattle.deliveries.specs.Numbers.{AreNumbersOf};
 ghost use Rattle.deliveries.specs.Passages.{BringsUnused, IsTrail, LeavesWindows, Passage};
 ghost use Rattle.deliveries.specs.Promises.{PacketsAreJudged};
-ghost use Rattle.deliveries.specs.Worked.{IsWorkedTrail};
 
 /// Of every list of steps, whatever comes: no sequence number of a Child SA is judged twice, nor one that its
 /// window held when the list began. What is judged is what the rule judges at all numbers taken before, and
@@ -66,18 +65,3 @@ pub fn other_changes_leave_windows()
     ensures sending { (old new : Database) (policy : List Entry) (packet : Octets) (outcome : Outcome)
         → IsSoundTable old → Sends old policy packet outcome new → LeavesWindows old new }
 {}
-
-/// The assumptions are met by a packet that comes twice, with another step between: it is a trail, and no ICV
-/// in it is forged.
-pub fn premises_are_met()
-    ensures { IsWorkedTrail }
-{
-    replay::laws::taking_keeps_windows_sound();
-    esp::laws::premise_is_met();
-    esp::laws::sealed_packets_open();
-    esp::laws::a_packet_has_one_number();
-    esp::laws::windows_show_what_was_taken();
-    esp::laws::every_history_judges_at_most_once();
-    sadb::laws::answers_are_determined();
-    traffic::laws::a_packet_takes_one_number();
-}

@@ -13,7 +13,8 @@
 //!
 //! What a step is stands in `specs/Passages`, the numbers that a child has taken in `specs/Numbers`, the
 //! arrivals of what was sent to it and the assumption that none was forged in `specs/Arrivals`, and what is
-//! promised in `specs/Promises`. `specs/Worked` has a list for which the assumptions hold.
+//! promised in `specs/Promises`. That the assumptions can hold is shown by a run of two new gateways
+//! (`laws_worked`, `the_premises_of_replays_are_met_from_new_gateways_on`).
 #![tactic(auto)]
 
 pub mod laws;

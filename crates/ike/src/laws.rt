@@ -17,7 +17,7 @@ pub use before::{
     each_association_was_there_or_came, first_requests_tell_what_is_held, who_asks_has_read,
     who_is_half_open_was_so, who_waits_keeps_its_offer,
 };
-pub use given::inputs_tell_their_lengths;
+pub use given::{inputs_bring_sixteen_octets_for_sealing, inputs_tell_their_lengths};
 pub use made_children::{
     answers_keep_to_their_offers, children_are_extended_where_allowed,
     children_are_made_of_their_messages, children_have_few_selectors, first_children_mirror,

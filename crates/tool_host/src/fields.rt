@@ -76,6 +76,10 @@ impl<'a> Fields<'a> {
         Ok(BigEndian::read_u64(self.take(8)?))
     }
 
+    pub fn u128(&mut self) -> Result<u128, FrameFault> {
+        Ok(BigEndian::read_u128(self.take(16)?))
+    }
+
     /// A length of 2 octets, and so many octets behind it.
     pub fn block(&mut self) -> Result<&'a [u8], FrameFault> {
         let length = self.u16()?;

@@ -1,6 +1,7 @@
 //! Frames: a length of 4 octets, and so many octets behind it, of which the first is the kind.
 
 use crate::Stop;
+use byteorder::{BigEndian, ByteOrder};
 use gw_console::write_whole;
 use std::io::{ErrorKind, Read, Write};
 
@@ -16,7 +17,7 @@ pub fn read_frame<R: Read>(reader: &mut R, frame: &mut Vec<u8>) -> Result<bool, 
     let mut others = [0; 3];
     fill(reader, &mut others)?;
     let [second, third, fourth] = others;
-    let size = u32::from_be_bytes([first, second, third, fourth]);
+    let size = BigEndian::read_u32(&[first, second, third, fourth]);
     if size == 0 || size > FRAME_LIMIT {
         return Err(Stop::Size);
     }
@@ -55,7 +56,9 @@ pub fn write_frame<W: Write>(writer: &mut W, frame: &[u8]) -> Result<(), Stop> {
     let Ok(size) = u32::try_from(frame.len()) else {
         return Err(Stop::Size);
     };
-    if write_whole(writer, &size.to_be_bytes()).is_err() || write_whole(writer, frame).is_err() {
+    let mut length = [0; 4];
+    BigEndian::write_u32(&mut length, size);
+    if write_whole(writer, &length).is_err() || write_whole(writer, frame).is_err() {
         return Err(Stop::Unwritten);
     }
     Ok(())

@@ -1,5 +1,6 @@
 //! The frames that answer: what came of an input.
 use crate::{FrameFault, Stop};
+use byteorder::{BigEndian, ByteOrder};
 use gateway::{Output, Traced, Transmit};
 use std::alloc::Global;
 
@@ -43,11 +44,22 @@ pub fn answer(alloc: Global, traced: &Traced<'_>, next: Option<u64>) -> Result<V
 fn append_head(frame: &mut Vec<u8>, traced: &Traced<'_>, next: Option<u64>) -> Result<(), Stop> {
     let output = &traced.output;
     frame.extend_from_slice(&[kind_of(output), code_of(output)])?;
-    frame.extend_from_slice(&ike_of(traced).to_be_bytes())?;
-    frame.extend_from_slice(&child_of(traced).to_be_bytes())?;
-    frame.extend_from_slice(&number_of(output).to_be_bytes())?;
-    frame.extend_from_slice(&next.unwrap_or(NO_MOMENT).to_be_bytes())?;
-    Ok(())
+    append_u32(frame, ike_of(traced))?;
+    append_u32(frame, child_of(traced))?;
+    append_u64(frame, number_of(output))?;
+    append_u64(frame, next.unwrap_or(NO_MOMENT))
+}
+
+fn append_u32(frame: &mut Vec<u8>, number: u32) -> Result<(), Stop> {
+    let mut octets = [0; 4];
+    BigEndian::write_u32(&mut octets, number);
+    Ok(frame.extend_from_slice(&octets)?)
+}
+
+fn append_u64(frame: &mut Vec<u8>, number: u64) -> Result<(), Stop> {
+    let mut octets = [0; 8];
+    BigEndian::write_u64(&mut octets, number);
+    Ok(frame.extend_from_slice(&octets)?)
 }
 
 fn kind_of(output: &Output<'_>) -> u8 {
@@ -141,7 +153,7 @@ fn append_closed(frame: &mut Vec<u8>, output: &Output<'_>) -> Result<(), Stop> {
 fn append_serials(frame: &mut Vec<u8>, serials: &[u32]) -> Result<(), Stop> {
     append_count(frame, serials.len())?;
     for serial in serials {
-        frame.extend_from_slice(&serial.to_be_bytes())?;
+        append_u32(frame, *serial)?;
     }
     Ok(())
 }
@@ -169,7 +181,7 @@ fn append_datagram(frame: &mut Vec<u8>, way: u8, octets: &[u8]) -> Result<(), St
 // A count or a length, in 4 octets.
 fn append_count(frame: &mut Vec<u8>, count: usize) -> Result<(), Stop> {
     match u32::try_from(count) {
-        Ok(count) => Ok(frame.extend_from_slice(&count.to_be_bytes())?),
+        Ok(count) => append_u32(frame, count),
         Err(_) => Err(Stop::Size),
     }
 }

@@ -131,11 +131,7 @@ fn entry_of(fields: &mut Fields<'_>) -> Result<Entry, SettingsFault> {
 fn range_of(family: u8, fields: &mut Fields<'_>) -> Result<Range, SettingsFault> {
     match family {
         4 => Ok(Range::V4(fields.u32()?, fields.u32()?)),
-        6 => {
-            let first = u128::from_be_bytes(fields.array()?);
-            let last = u128::from_be_bytes(fields.array()?);
-            Ok(Range::V6(first, last))
-        }
+        6 => Ok(Range::V6(fields.u128()?, fields.u128()?)),
         _ => Err(SettingsFault::Family),
     }
 }

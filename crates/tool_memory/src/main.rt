@@ -12,12 +12,15 @@
 //! own lists.
 //!
 //! With any word on its command line it does this instead (`thousand`): a thousand ESP packets come to one gateway
-//! while all memory is refused, and then a list of them that has no room for its outputs.
+//! while all memory is refused, then a list of them that has no room for its outputs, and then datagrams that
+//! are no message of IKE (`faulty`).
 #![tactic(auto)]
 
+mod faulty;
 mod link;
 mod thousand;
 
+use faulty::COUNT as DATAGRAMS;
 use gateway::Reason;
 use link::{Link, Trouble};
 use std::alloc::Global;
@@ -41,12 +44,12 @@ fn words(rt: &HostRuntime) -> Result<Vec<String>, Trouble> {
     }
 }
 
-// What comes of a thousand packets while all memory is refused.
+// What comes of a thousand packets and of those datagrams while all memory is refused.
 fn without_memory(rt: &HostRuntime) -> ExitCode {
     let (said, status) = match thousand::play(rt.alloc()) {
-        Ok(Found { up, stop }) => (
+        Ok(Found { up, stop, told }) => (
             println!(rt;
-                "without memory {up} of {COUNT} packets went up; of a list of them: {stop}"
+                "without memory {up} of {COUNT} packets went up; of a list of them: {stop}; {told} of {DATAGRAMS} datagrams that are no message told why"
             ),
             0,
         ),

@@ -1,4 +1,5 @@
-//! A thousand ESP packets that come while all memory is refused.
+//! A thousand ESP packets that come while all memory is refused, and datagrams that are no message of IKE.
+use crate::faulty::{count_told, datagrams};
 use crate::link::Trouble;
 use caller_script::ScriptCaller;
 use gateway::{Gateway, Input, Output, RunFault, run};
@@ -19,6 +20,8 @@ pub struct Found {
     pub up: usize,
     /// Why the list was not taken to its end.
     pub stop: RunFault,
+    /// How many datagrams that are no message were dropped by their own refusals.
+    pub told: usize,
 }
 
 /// Two gateways hold a Child SA, and one sends the packets; then memory is refused, and they come to the other.
@@ -35,12 +38,14 @@ fn play_between(
 ) -> Result<Found, Trouble> {
     let packets = sealed(alloc, from)?;
     let inputs = lend(alloc, &packets)?;
+    let faulty = datagrams(alloc)?;
     mark(alloc)?;
     let up = count_up(alloc, to, &inputs);
     let stop = stop(alloc, to, &inputs);
+    let told = count_told(alloc, to, &faulty);
     mark(alloc)?;
     match stop {
-        Some(stop) => Ok(Found { up, stop }),
+        Some(stop) => Ok(Found { up, stop, told }),
         None => Err(Trouble::Other),
     }
 }
