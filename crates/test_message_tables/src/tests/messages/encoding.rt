@@ -15,15 +15,19 @@ fn message(rt: &impl Abort, alloc: Global, payload: Payload) -> Message {
     }
 }
 
-/// What the payload alone is encoded as and read again, or why not.
+/// Why the payload alone is not encoded, or not read again as it was.
 fn trip(rt: &impl Abort, alloc: Global, payload: Payload) -> Refusal {
-    let message = message(rt, alloc, payload);
+    trip_of(rt, alloc, &message(rt, alloc, payload))
+}
+
+/// Why the message is not encoded, or not read again as it was.
+fn trip_of(rt: &impl Abort, alloc: Global, message: &Message) -> Refusal {
     let mut out = Vec::new(alloc);
-    if let Err(fault) = encode_message(&message, &mut out) {
+    if let Err(fault) = encode_message(message, &mut out) {
         return (fault.code(), fault.offset());
     }
     match decode_message(alloc, &out) {
-        Ok(read) if read == message => (0, None),
+        Ok(read) if read == *message => (0, None),
         Ok(_) => panic!(rt; "another message is read"),
         Err(fault) => (fault.code(), fault.offset()),
     }
@@ -371,6 +375,88 @@ const LONG_ATTRIBUTES: [Row; 8] = [
 #[test]
 fn the_longest_attributes(rt: HostRuntime) {
     none_differs(&rt, first_differing(&rt, rt.alloc(), &LONG_ATTRIBUTES));
+}
+
+// Messages of 3000 octets, and the next longer ones. A message's header has 28, a payload's 4.
+const FULL: [Row; 10] = [
+    (Sample::Octets(Kind::VendorId, 2968), 0, None),
+    (Sample::Octets(Kind::VendorId, 2969), 9, None),
+    // 4 octets stand before a notice's SPI, and its data behind that
+    (Sample::Notify(0, 2964), 0, None),
+    (Sample::Notify(255, 2709), 0, None),
+    (Sample::Notify(0, 2965), 9, None),
+    // 4 before a deletion's SPIs of 4 octets each
+    (Sample::Deletion(3, 741), 0, None),
+    (Sample::Deletion(3, 742), 9, None),
+    // 20 before an attribute's value: of the proposal 8, of the transform 8, of the attribute 4
+    (Sample::Long(1, 2948), 0, None),
+    (Sample::Long(1, 2949), 9, None),
+    (Sample::Octets(Kind::Unknown, 2968), 0, None),
+];
+
+#[test]
+fn the_longest_messages(rt: HostRuntime) {
+    none_differs(&rt, first_differing(&rt, rt.alloc(), &FULL));
+}
+
+/// Why a message of so many empty vendor IDs is not encoded and read.
+fn refusal_of_payloads(rt: &impl Abort, alloc: Global, count: usize) -> Refusal {
+    let mut payloads = Items::new(alloc);
+    for _ in 0..count {
+        let none = octets(rt, alloc, 0, 0);
+        granted(rt, payloads.push(with_octets(Kind::VendorId, none)));
+    }
+    let message = Message {
+        header: header(),
+        payloads,
+    };
+    trip_of(rt, alloc, &message)
+}
+
+/// Why so many proposals, numbered from 1 on, are not encoded and read. Each has an SPI of 4 octets and a
+/// transform.
+fn refusal_of_proposals(rt: &impl Abort, alloc: Global, count: u8) -> Refusal {
+    let mut proposals = Items::new(alloc);
+    for before in 0..count {
+        let number = before.wrapping_add(1);
+        let proposal = proposal(rt, alloc, number, 4, transforms(rt, alloc, 1));
+        granted(rt, proposals.push(proposal));
+    }
+    trip(rt, alloc, Payload::Sa(proposals))
+}
+
+/// Why a transform with so many attributes in the short form is not encoded and read.
+fn refusal_of_attributes(rt: &impl Abort, alloc: Global, count: usize) -> Refusal {
+    let mut attributes = Items::new(alloc);
+    for _ in 0..count {
+        let attribute = Attribute::Short {
+            kind: 14,
+            value: 128,
+        };
+        granted(rt, attributes.push(attribute));
+    }
+    let transform = Transform {
+        kind: 1,
+        id: 11,
+        attributes,
+    };
+    let mut transforms = Items::new(alloc);
+    granted(rt, transforms.push(transform));
+    let proposal = proposal(rt, alloc, 1, 0, transforms);
+    trip(rt, alloc, alone(rt, alloc, proposal))
+}
+
+// Of 3000 octets the message's header has 28, and the first payload's 4. An empty payload has 4, an
+// attribute in the short form 4 behind 16 of its proposal and transform, and each of the proposals 20.
+#[test]
+fn the_most_of_each_list(rt: HostRuntime) {
+    let alloc = rt.alloc();
+    same(&rt, refusal_of_payloads(&rt, alloc, 743), (0, None));
+    same(&rt, refusal_of_payloads(&rt, alloc, 744), (9, None));
+    same(&rt, refusal_of_attributes(&rt, alloc, 738), (0, None));
+    same(&rt, refusal_of_attributes(&rt, alloc, 739), (9, None));
+    same(&rt, refusal_of_proposals(&rt, alloc, 148), (0, None));
+    same(&rt, refusal_of_proposals(&rt, alloc, 149), (9, None));
 }
 
 /// Why a message is not encoded. What stood in the output has to stay.

@@ -109,4 +109,5 @@ fn laws_can_be_called() {
     laws::plain_spellings_are_spellings();
     laws::spellings_have_their_size();
     laws::messages_that_fit_are_spelled();
+    laws::what_has_no_fault_is_spelled();
 }
