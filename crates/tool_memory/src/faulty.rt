@@ -20,27 +20,27 @@ pub struct Faulty {
 const VERSION: u8 = 0x20;
 
 // How many octets a header and the nonce behind it have.
-const BEGINNING: usize = 48;
+const BEGINNING: u32 = 48;
 
-// Refusals, each with a payload of this type that gets it: its length doesn't cover its header, there is no
-// proposal, there is no selector, a nonce has one octet, and a key exchange has no data.
-const PAYLOADS: [(u8, u8, &[u8]); 5] = [
-    (4, NONCE_TYPE, &[0, 0, 0, 3]),
-    (5, SA_TYPE, &[0, 0, 0, 4]),
-    (6, TS_I_TYPE, &[0, 0, 0, 8, 0, 0, 0, 0]),
-    (7, NONCE_TYPE, &[0, 0, 0, 5, 1]),
-    (8, KE_TYPE, &[0, 0, 0, 8, 0, 14, 0, 0]),
+// Refusals, each with a payload of this type and so many octets that gets it: its length doesn't cover its
+// header, there is no proposal, there is no selector, a nonce has one octet, and a key exchange has no data.
+const PAYLOADS: [(u8, u8, u32, &[u8]); 5] = [
+    (4, NONCE_TYPE, 4, &[0, 0, 0, 3]),
+    (5, SA_TYPE, 4, &[0, 0, 0, 4]),
+    (6, TS_I_TYPE, 8, &[0, 0, 0, 8, 0, 0, 0, 0]),
+    (7, NONCE_TYPE, 5, &[0, 0, 0, 5, 1]),
+    (8, KE_TYPE, 8, &[0, 0, 0, 8, 0, 14, 0, 0]),
 ];
 
 // A request of IKE_SA_INIT up to the end of a nonce of 16 octets, behind which stands a payload of the type
 // `next`. Its header tells this length.
-fn beginning(alloc: Global, version: u8, length: usize, next: u8) -> Result<Vec<u8>, Trouble> {
-    let mut octets = Vec::with_capacity(alloc, BEGINNING)?;
+fn beginning(alloc: Global, version: u8, length: u32, next: u8) -> Result<Vec<u8>, Trouble> {
+    let mut octets = Vec::new(alloc);
     octets.extend_from_slice(&5u64.to_be_bytes())?;
     octets.extend_from_slice(&0u64.to_be_bytes())?;
     octets.extend_from_slice(&[NONCE_TYPE, version, IKE_SA_INIT, 0x08])?;
     octets.extend_from_slice(&0u32.to_be_bytes())?;
-    octets.extend_from_slice(&(length as u32).to_be_bytes())?;
+    octets.extend_from_slice(&length.to_be_bytes())?;
     octets.extend_from_slice(&[next, 0, 0, 20])?;
     octets.extend_from_slice(&[1; 16])?;
     Ok(octets)
@@ -59,14 +59,14 @@ pub fn datagrams(alloc: Global) -> Result<Vec<Faulty>, Trouble> {
     // Version 3.0.
     let octets = beginning(alloc, 0x30, BEGINNING, NO_PAYLOAD)?;
     datagrams.push(Faulty { code: 3, octets })?;
-    for (code, kind, payload) in PAYLOADS {
-        let mut octets = beginning(alloc, VERSION, BEGINNING + payload.len(), kind)?;
+    for (code, kind, count, payload) in PAYLOADS {
+        let mut octets = beginning(alloc, VERSION, BEGINNING + count, kind)?;
         octets.extend_from_slice(payload)?;
         datagrams.push(Faulty { code, octets })?;
     }
     // An octet more than a message may have.
     let mut octets = beginning(alloc, VERSION, 3001, NO_PAYLOAD)?;
-    octets.extend_from_slice(&[0; 3001 - BEGINNING])?;
+    octets.resize(3001, 0)?;
     datagrams.push(Faulty { code: 9, octets })?;
     Ok(datagrams)
 }
