@@ -1,6 +1,6 @@
 #!/usr/bin/env python3
 """Refuses each allocation of crates/tool_memory in turn, alone and with all after it, and looks at what the program says of it: by which words
-the step was refused that wanted it, E10, E20, E24 or E27, of which each has to come.
+the step was refused that wanted it, E10, E20, E24 or E27, and whether those growths got them that should.
 
 From anywhere, after (cd crates/tool_memory && rt run): python3 tools/want_of_memory.py. The C library's allocator is put aside by a small
 library of C, which is built with cc. Alone, the program has to find that all is as with memory, or that memory was wanted for its own
@@ -26,7 +26,7 @@ ALLOCATOR = r"""
 #include <stdlib.h>
 #include <unistd.h>
 
-static long calls, refused = -1, onward, mark = -1, marked;
+static long calls, refused = -1, onward, mark = -1, marked, octets = -1;
 
 __attribute__((constructor)) static void begin(void) {
     const char *number = getenv("REFUSED");
@@ -42,7 +42,7 @@ __attribute__((destructor)) static void end(void) {
     if (out) {
         refused = -1;
         marked = 0;
-        fprintf(out, "%ld\n", calls);
+        fprintf(out, "%ld %ld\n", calls, octets);
         fclose(out);
     }
 }
@@ -54,6 +54,7 @@ static int refuses(size_t size) {
         marked = !marked;
         return 0;
     }
+    if (calls == refused) octets = (long)size;
     if (marked) return 1;
     return refused > 0 && (onward ? calls >= refused : calls == refused);
 }
@@ -81,14 +82,19 @@ WITHOUT = r"no memory"
 ALONE = {AGAIN: 0, NOTHING: 0, WITHOUT: 3}
 ONWARD = {NOTHING: 0, WITHOUT: 3}
 
-# Each of these is said of some growth on the way, and nothing else.
-TEXTS = {
-    "E10: no memory",
-    "E20: no memory for the packet",
-    "E20: no memory for the replay window",
-    "E24: no memory for the selectors",
-    "E27: no memory for the table",
+# Of which growths each of these is said: how often, and how many octets are asked for. Two pairs of gateways go the way, and make three Child SAs
+# each: so twelve SA pairs in four tables. Of all other growths E10 is said.
+GROWTHS = {
+    # Three packets by each of both. One is of 20 octets, before which ESP has 8, and behind which 2 of padding, 2 and an ICV of 16.
+    "E20: no memory for the packet": {48: 6},
+    # Each SA pair's window, of two blocks of 64 numbers.
+    "E20: no memory for the replay window": {16: 12},
+    # Both lists of each SA pair, of one selector of 64 octets. At the end that answers both lists that are narrowed, with places for four.
+    "E24: no memory for the selectors": {64: 24, 256: 12},
+    # In each table once: places for four SA pairs of 768 octets, and two lists by which they are found.
+    "E27: no memory for the table": {3072: 4, 64: 4, 32: 4},
 }
+OTHERWISE = "E10: no memory"
 # The mark of crates/tool_memory/src/thousand.rt, and what is said of it.
 MARK = "7777777"
 THOUSAND = (
@@ -103,6 +109,11 @@ def run(library, *words, **environment):
     return ran.stdout.strip(), ran.returncode
 
 
+# Reads how many calls there were, and for how many octets the refused one asked.
+def counts(counted):
+    return map(int, counted.read_text().split())
+
+
 def is_allowed(said, status, allowed):
     return any(re.fullmatch(words, said) and status == wanted for words, wanted in allowed.items())
 
@@ -115,23 +126,29 @@ def main():
         subprocess.run(["cc", "-O1", "-fPIC", "-shared", "-o", library, room / "allocator.c"], check=True)
         counted = room / "counted"
         print("with memory:", *run(library, COUNTED=str(counted)))
-        calls = int(counted.read_text())
-        wrong, texts = 0, []
+        calls, _ = counts(counted)
+        wrong, growths = 0, collections.defaultdict(collections.Counter)
         for words, allowed in (({}, ALONE), ({"ONWARD": "1"}, ONWARD)):
             found = collections.Counter()
             for number in range(1, calls + 1):
-                said = run(library, REFUSED=str(number), **words)
+                said = run(library, REFUSED=str(number), COUNTED=str(counted), **words)
                 found[said] += 1
                 if not is_allowed(*said, allowed):
                     wrong += 1
                     print(f"allocation {number}{' and all after it' if words else ''}: {said}")
+                for text in re.findall(AGAIN, said[0]):
+                    _, octets = counts(counted)
+                    growths[text][octets] += 1
             print("with all after it refused:" if words else "each alone refused:")
             for (said, status), times in sorted(found.items()):
                 print(f"  {times} times: {said} (status {status})")
-                texts += re.findall(AGAIN, said)
-        for text in sorted(TEXTS ^ set(texts)):
+        for text in sorted(GROWTHS.keys() | growths.keys() - {OTHERWISE}):
+            if growths[text] != GROWTHS.get(text, {}):
+                wrong += 1
+                print(f"{text}: of growths of so many octets, so often: {dict(growths[text])}, and not {GROWTHS.get(text, {})}")
+        if not growths[OTHERWISE]:
             wrong += 1
-            print(f"nothing was refused as: {text}" if text in TEXTS else f"refused in other words: {text}")
+            print(f"nothing was refused as: {OTHERWISE}")
         said = run(library, "thousand", MARK=MARK)
         print("all refused:", *said)
         wrong += said != THOUSAND
