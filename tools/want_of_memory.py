@@ -87,8 +87,8 @@ ONWARD = {NOTHING: 0, WITHOUT: 3}
 GROWTHS = {
     # Three packets by each of both. One is of 20 octets, before which ESP has 8, and behind which 2 of padding, 2 and an ICV of 16.
     "E20: no memory for the packet": {48: 6},
-    # Each SA pair's window, of two blocks of 64 numbers.
-    "E20: no memory for the replay window": {16: 12},
+    # Each SA pair's window, of 128 blocks of 8 octets.
+    "E20: no memory for the replay window": {1024: 12},
     # Both lists of each SA pair, of one selector of 64 octets. At the end that answers both lists that are narrowed, with places for four.
     "E24: no memory for the selectors": {64: 24, 256: 12},
     # In each table once: places for four SA pairs of 768 octets, and two lists by which they are found.

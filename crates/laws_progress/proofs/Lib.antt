@@ -5,6 +5,5 @@ mod ChildLemmas
 mod TakenLemmas
 mod PlaceLemmas
 mod OrderLemmas
-mod WorkedLemmas
 mod StreamLemmas
 mod WorkedStreamLemmas

@@ -1,5 +1,5 @@
 -- The packet of the run from two new gateways is a stream that comes in order.
-use Rattle.std.proofs.Common.{◌≡◌, ◌⊎◌, ◌+◌, ◌^◌, ◌≤◌, ℕ, zero, suc, true, List, map, Option, None, Some, inl, inr, refl, sym, ap, ◌∙◌, subst, arith}
+use Rattle.std.proofs.Common.{◌≡◌, ◌⊎◌, ◌+◌, ◌^◌, ◌<◌, ◌≤◌, ℕ, zero, suc, true, List, map, Option, None, Some, inl, inr, refl, sym, ap, ◌∙◌, subst, arith}
 use Rattle.std.specs.FinMap as finite
 use Rattle.std.specs.List.{slice_get}
 use Rattle.std.specs.Option.{option_map}
@@ -9,8 +9,10 @@ use Rattle.base.specs.Octets.{Octets}
 use Rattle.esp.specs.Judging.{low_half, Judges}
 use Rattle.esp.specs.Worked.{worked_payload}
 use Rattle.esp.proofs.NumberLemmas.{judged_as_one}
-use Rattle.sadb.specs.Database.{pair_at}
+use Rattle.sadb.specs.Database.{pair_at, IsOutbound}
 use Rattle.sadb.specs.declared.pair.Pair.{Pair}
+use Rattle.traffic.specs.Outcomes as traffic
+use Rattle.traffic.specs.Sending.{Sends}
 use Rattle.gateway.specs.Inputs.{Event, Input}
 use Rattle.gateway.specs.Inputs as input
 use Rattle.gateway.specs.LawsOfRuns.{EveryRunKeepsItsPromises}
@@ -18,14 +20,17 @@ use Rattle.gateway.specs.LawsOfWorlds.{EachEndHasItsHistory, WhatIsUnforgedByThe
 use Rattle.gateway.specs.Outputs.{OutputView, Sealed}
 use Rattle.gateway.specs.Packets.{JudgesPacket}
 use Rattle.gateway.specs.WorldHistories.{passage_at, Happening}
-use Rattle.gateway.specs.Worlds.{gateway_at}
+use Rattle.gateway.specs.Worlds.{gateway_at, TakesEvent}
 use Rattle.gateway.specs.declared.world.stored.End.{End}
 use Rattle.gateway.specs.declared.world.stored.End.TheVariants.{A, B}
 use Rattle.laws_two_ends.specs.WorkedRecords.{worked_record}
 use Rattle.laws_two_ends.specs.WorkedRuns.{events_of, new_ends, outputs_of, run_meaning, Exchanged, IsRunFromNewGateways}
-use Rattle.laws_progress.specs.InOrder.{WasAccepted}
+use Rattle.laws_progress.specs.Delivering.{IsSealedBy, IsToGoBy}
+use Rattle.laws_progress.specs.InOrder.{FollowsClosely, WasAccepted}
 use Rattle.laws_progress.specs.Streams.{AcceptsNothingElse, ArriveInOrder, ArrivesAs, LeavesSmallGap}
-use Rattle.laws_progress.specs.WorkedStreams.{IsStreamFromNewGateways}
+use Rattle.laws_progress.specs.WorkedStreams.{IsProgressFromNewGateways, IsStreamFromNewGateways}
+use Rattle.laws_progress.proofs.DeliveringLemmas as delivering
+use Rattle.laws_progress.proofs.DeliveringLemmas.{step_at}
 use Rattle.laws_progress.proofs.CrossingLemmas.{is_recovered}
 use Rattle.laws_progress.proofs.OrderLemmas.{top_was}
 
@@ -122,7 +127,7 @@ module _ {C : Type 0} (a b : C) (run : IsRunFromNewGateways a b) (runs : EveryRu
 
   -- ---- the pair to which it comes
 
-  pair_is : Pair
+  abbrev pair_is : Pair
   pair_is = run.packet_comes.pair
 
   held : pair_at (gateway_at run.answered.end run.packet_step.before).table.pairs run.answered.serial ≡ Some run.packet_comes.pair
@@ -230,4 +235,87 @@ module _ {C : Type 0} (a b : C) (run : IsRunFromNewGateways a b) (runs : EveryRu
     arrives = arrives;
     nothing_else = nothing_else;
     in_order = in_order;
+  }
+
+  -- ---- the packet's way
+
+  abbrev takes_at_five : TakesEvent (λ _. run_meaning) seals.item.event seals.item.before seals.item.said seals.item.after
+  takes_at_five = step_at (λ _. run_meaning) run.happenings (new_ends a b) run.last run.trail 5 seals.item seals.there
+
+  given_at_five : seals.item.event.input ≡ input.Outward worked_payload
+  given_at_five = ap (λ (e : Event). e.input) seals.is
+
+  abbrev sends : Sends (gateway_at seals.item.event.end seals.item.before).table (gateway_at seals.item.event.end seals.item.before).entries worked_payload (traffic.Sealed 1 1 run.exchanged.packet) takes_at_five.gateway.table
+  sends = delivering.seals (λ _. run_meaning) seals.item takes_at_five 1 1 worked_payload run.exchanged.packet given_at_five (sym (said_at_five seals.item seals.there))
+
+  abbrev near : Pair
+  near = sends.protects.sealed.pair
+
+  near_there : pair_at (gateway_at seals.item.event.end seals.item.before).table.pairs 1 ≡ Some near
+  near_there = sends.protects.sealed.changed.there
+
+  near_serial : near.serial ≡ 1
+  near_serial = takes_at_five.sound.table.serial 1 near near_there
+
+  near_held : pair_at (gateway_at seals.item.event.end seals.item.before).table.pairs near.serial ≡ Some near
+  near_held = subst (λ (s : ℕ). pair_at (gateway_at seals.item.event.end seals.item.before).table.pairs s ≡ Some near) (sym near_serial) near_there
+
+  goes : IsToGoBy near worked_payload seals.item
+  goes = record {
+    given = given_at_five;
+    flow = sends.flow;
+    protected = sends.decided;
+    held = near_held;
+    carries = subst (λ (s : ℕ). IsOutbound (gateway_at seals.item.event.end seals.item.before).table.pairs sends.flow s) (sym near_serial) sends.protects.carrier;
+    number_left = sends.protects.sealed.sealed.has_number;
+  }
+
+  sealed : IsSealedBy near near.serial 1 worked_payload run.exchanged.packet seals.item
+  sealed = record {
+    given = given_at_five;
+    said = sym (said_at_five seals.item seals.there) ∙ ap (λ (s : ℕ). Sealed s 1 run.exchanged.packet) (sym near_serial);
+    stood = near_held;
+  }
+
+  -- ---- it comes to the other pair
+
+  far_held : pair_at (gateway_at run.packet_step.event.end run.packet_step.before).table.pairs pair_is.serial ≡ Some pair_is
+  far_held =
+      subst (λ (e : End). pair_at (gateway_at e run.packet_step.before).table.pairs pair_is.serial ≡ Some pair_is) (sym run.packet_comes.end_is)
+      run.packet_comes.addressed.inbound.there
+
+  recovered : pair_is.inbound.association.extended ≡ true → 1 + pair_is.inbound.window.size ≤ pair_is.inbound.window.top + 2 ^ 32
+  recovered extended =
+      is_recovered pair_is.inbound.association.extended pair_is.inbound.window (low_half run.exchanged.packet) 1 run.packet_comes.judged.number extended
+
+  close : pair_is.inbound.association.extended ≡ true → FollowsClosely run.packet_step.event.end (new_ends a b) run.happenings 6 pair_is 1
+  close extended =
+      let within = recovered extended in
+      let top = nothing_taken in
+      record { last = 0; was = inl refl; within = omega (arith, within, top) }
+
+  nothing_before : (taken : ℕ) → WasAccepted run.packet_step.event.end (new_ends a b) run.happenings 6 pair_is.serial taken → taken < 1
+  nothing_before taken was = let none = none_before taken (inr was) in omega (arith, none)
+
+  pub worked_progress : IsProgressFromNewGateways a b
+  worked_progress = record {
+    run = run;
+    sealing = seals.item;
+    seals = seals.there;
+    pair = near;
+    goes = goes;
+    sealed = sealed;
+    mirror = pair_is;
+    comes = record { given = run.packet_comes.given; held = far_held };
+    may = record { new = run.packet_comes.judged.new; in_reach = run.packet_comes.judged.in_reach; recovered = recovered };
+    in_time = record {
+      new = λ was.
+          let six : was.earlier ≡ 6 = comes_at_six was.earlier was.happening was.accepts.octets was.there was.accepts.judges.given in
+          let before = was.before in
+          omega (arith, six, before);
+      new_at_first = λ was there. absurd (nothing_held a b run.packet_step.event.end pair_is.serial was there);
+      in_reach = λ taken was. let less = nothing_before taken was in omega (arith, less);
+      close = close;
+    };
+    in_order = record { above = nothing_before; close = close };
   }

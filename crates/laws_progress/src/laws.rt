@@ -1,11 +1,8 @@
 //! What follows from the definitions alone. No function here does anything.
-ghost use Rattle.std.specs.Prelude.{◌≡◌, ◌↔◌, ◌⊎◌, ◌+◌, ◌^◌, ◌<◌, ◌≤◌, ℕ, Bool, true, Contains, List, Some, slice_get};
+ghost use Rattle.std.specs.Prelude.{◌≡◌, ◌↔◌, ◌⊎◌, ◌+◌, ◌^◌, ◌<◌, ◌≤◌, ℕ, true, Contains, List, Some, slice_get};
 ghost use Rattle.base.specs.Octets.{Octets};
-ghost use Rattle.esp.specs.Packet.{number_limit};
 ghost use Rattle.suite.specs.declared.key_record.KeyRecord.{KeyRecord};
 ghost use Rattle.sadb.specs.declared.pair.Pair.{Pair};
-ghost use Rattle.setup.specs.Configs.{IsConfig};
-ghost use Rattle.setup.specs.declared.config.Config.{Config};
 ghost use Rattle.effects.specs.Taking.{Meaning, meaning_of};
 ghost use Rattle.gateway.specs.BothEnds.{IsWhollySound};
 ghost use Rattle.gateway.specs.Outputs.{Refused, Up};
@@ -20,14 +17,12 @@ ghost use Rattle.laws_progress.specs.Delivering.{ComesTo, ComesToChild, IsSealed
 ghost use Rattle.laws_progress.specs.InOrder.{ComesInOrder, ComesInTime};
 ghost use Rattle.laws_progress.specs.Streams.{AcceptsNothingElse, ArriveInOrder, ArrivesAs};
 ghost use Rattle.laws_progress.specs.Through.{GoesThrough};
-ghost use Rattle.laws_progress.specs.Worked.{IsWorkedProgress};
-ghost use Rattle.laws_progress.specs.WorkedStreams.{IsStreamFromNewGateways};
+ghost use Rattle.laws_progress.specs.WorkedStreams.{IsProgressFromNewGateways, IsStreamFromNewGateways};
 
 use gateway::laws::{
     both_ends_keep_their_promises, each_end_has_its_events, every_run_keeps_its_promises,
     every_world_stays_sound, the_protected_never_goes_in_the_clear,
 };
-use ike::laws::what_is_due_comes_in_time;
 use laws_two_ends::laws::the_premises_are_met_from_new_gateways_on;
 use sadb::laws::answers_are_determined;
 use suite::{Agreement, Proof, Sealer};
@@ -220,16 +215,17 @@ pub fn a_stream_in_order_goes_up_whole<C: Sealer + Agreement + Proof>()
     each_end_has_its_events::<C>();
 }
 
-/// Non-vacuity: the premises are met by two steps of a world, with ESN and without it, whatever number
-/// from 2 on is the next. A packet goes out at one end, which seals it; its octets come to the other,
-/// which holds the mirrored pair and has accepted the preceding number, and the packet goes up there.
-/// Configuration, provider and its value may be any.
+/// Non-vacuity: the premises on a packet's way, without ESN, are met by a run that begins with two new
+/// gateways ([`laws_two_ends`]). A packet goes out at one end, which seals it by its pair. Its octets come to
+/// the other end's pair, in time and in order, under a number that its window may accept. It is not said that
+/// both pairs mirror each other. What the callers mean is fixed there: it keeps the traits' laws, hides
+/// nothing and accepts every proof.
 pub fn the_premises_of_progress_are_met<C>()
-    ensures { (meaning_of : C → Meaning) (config : Config) (caller : C) (extended : Bool) (last : ℕ)
-        → IsConfig config → 1 ≤ last → last + 1 < number_limit extended
-        → IsWorkedProgress config caller extended last meaning_of }
+    ensures { (a b : C) → IsProgressFromNewGateways a b }
 {
-    what_is_due_comes_in_time();
+    the_premises_are_met_from_new_gateways_on::<C>();
+    every_run_keeps_its_promises::<C>();
+    each_end_has_its_events::<C>();
 }
 
 /// Non-vacuity: the premises on the two ends of a Child SA, and on a stream of one packet without ESN,

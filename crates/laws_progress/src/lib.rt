@@ -17,8 +17,8 @@
 //! - [`laws::a_stream_in_order_goes_up_whole`]: all packets of a Child SA that come in the order in which
 //!   they were sealed, each once, go up, if nothing else is accepted: whatever is lost between, but for long
 //!   gaps with ESN.
-//! - [`laws::the_premises_of_progress_are_met`] and [`laws::the_premises_of_streams_are_met`]: there are such
-//!   steps, and there is such a run from two new gateways.
+//! - [`laws::the_premises_of_progress_are_met`] and [`laws::the_premises_of_streams_are_met`]: there is such a
+//!   packet, and there is such a stream, in a run from two new gateways.
 //!
 //! `proofs/CrossingLemmas` has it for one packet at two tables, by the law of [`traffic`]. `DeliveringLemmas`
 //! finds both tables in the steps of a world. `OrderLemmas` reads the window from the history, by what

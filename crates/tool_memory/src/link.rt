@@ -4,7 +4,7 @@ use caller_script::ScriptCaller;
 use gateway::{End, Gateway, Output, Reason};
 use std::alloc::{AllocError, AllocFailed, Global};
 use test_samples::{
-    OwnedInput, SampleFault, fresh, further, gateway, message, order, packet_out, probe,
+    OwnedInput, SampleFault, config, fresh, further, message, order, packet_out, policy, probe,
 };
 
 /// Why the way ended before its end.
@@ -220,6 +220,17 @@ fn made(alloc: Global, end: End) -> Result<Gateway<ScriptCaller>, Trouble> {
         Ok(made) => Ok(made),
         Err(_) => Ok(gateway(alloc, end)?),
     }
+}
+
+// A gateway whose replay windows are as wide as can be: of 128 blocks, so of 1024 octets, which nothing else
+// asks for.
+fn gateway(alloc: Global, end: End) -> Result<Gateway<ScriptCaller>, SampleFault> {
+    let config = config(alloc, end, 1)?.with_blocks(128)?;
+    let start = match end {
+        End::A => 4096,
+        End::B => 8192,
+    };
+    Ok(Gateway::new(alloc, config, policy(alloc, end)?, start, ScriptCaller))
 }
 
 // A datagram comes as a packet of ESP.

@@ -179,12 +179,14 @@ fn one_that_fails_sends_nothing(rt: HostRuntime) {
     );
 }
 
-/// As many IKE SAs as can be held, each with a request that was sent for the last time.
-fn most(rt: &impl Abort, alloc: Global) -> Vec<Association> {
+/// As many IKE SAs as can be held, each with so many requests under way, of this timer.
+fn most(rt: &impl Abort, alloc: Global, count: usize, timer: Timer) -> Vec<Association> {
     let mut all = Vec::new(alloc);
     for serial in 0..128u32 {
         let mut other = association(alloc, serial, Phase::Established(keys()));
-        issue(rt, alloc, &mut other, Purpose::Probe, timer(31_000, 5));
+        for _ in 0..count {
+            issue(rt, alloc, &mut other, Purpose::Probe, timer);
+        }
         all.push(other).expect(rt, "memory");
     }
     all
@@ -198,7 +200,22 @@ fn as_many_as_can_be_held_fail_at_once(rt: HostRuntime) {
         (47_001, (0, 0, 128)),
         (167_000, (0, 0, 0)),
     ];
-    let mut associations = most(&rt, rt.alloc());
+    let mut associations = most(&rt, rt.alloc(), 1, timer(31_000, 5));
+    same(
+        &rt,
+        first_other(&rt, rt.alloc(), &mut associations, &rows),
+        None,
+    );
+}
+
+#[test]
+fn as_many_as_can_be_under_way_go_out_at_once(rt: HostRuntime) {
+    let rows = [
+        (999, (0, 0, 128)),
+        (1000, (2048, 0, 128)),
+        (1001, (0, 0, 128)),
+    ];
+    let mut associations = most(&rt, rt.alloc(), 16, timer(0, 0));
     same(
         &rt,
         first_other(&rt, rt.alloc(), &mut associations, &rows),
